@@ -1,0 +1,6 @@
+pub mod Fields
+pub mod Labels
+pub mod Started
+pub mod Summer
+pub mod Table
+pub mod Years
