@@ -33,3 +33,7 @@ label-found s day minute mark d mi ma e summer = (
   rw (summer, e) (omega arith),
   rw summer (grind (arith, tells)),
 )
+
+-- no other stamp has the label
+pub one-stamp : (s t day minute mark : ℕ) → HasLabel s day minute mark → HasLabel t day minute mark → s ≡ t
+one-stamp s t day minute mark h k = omega (arith, label-local s day minute mark h, label-local t day minute mark k)

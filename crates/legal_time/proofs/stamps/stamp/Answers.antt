@@ -39,5 +39,5 @@ returns-then-local-offset c = (
 
 pub returns : need.returns
 returns c =
-    label-found _ _ _ _ (c .if-day-gt-LAST-DAY .left) (c .if-minute-ge-DAY-MINUTES .left) (c .if-mark-gt1 .left)
-    (omega (arith, c .offset-of-offset .ensures)) (sym (c .is-summer .ensures) ∙ same _ _ (c .if-is-summer-summer .left))
+    label-found _ _ _ _ (omega arith) (omega arith) (omega arith) (omega (arith, c .offset-of-offset .ensures))
+    (sym (c .is-summer .ensures) ∙ same _ _ (c .if-is-summer-summer .left))

@@ -1,6 +1,6 @@
-use mathlib.Core.Path.{refl}
+use native.Mathlib.Omega.{arith}
 use Rattle.legal_time.proofs.Fields.{day-of-month-within}
 use Rattle.legal_time.proofs.moments.Moment.day_of_month.Needs as need
 
 pub returns : need.returns
-returns c = record { value = refl; bound = day-of-month-within (c .args .self .now) }
+returns c = let within = day-of-month-within (c .args .self .now) in omega arith

@@ -1,5 +1,4 @@
 use mathlib.Core.Path.{_≡_, sym, _∙_}
-use Prim.Native.Nat.{_+_, _%_}
 use native.Mathlib.Omega.{arith}
 use Rattle.legal_time.proofs.Fields.{day-within}
 use Rattle.legal_time.proofs.Summer.{within-hour}
@@ -11,7 +10,7 @@ weekday-of-requires c κs = day-within (c .args .self .now)
 pub ghost-result : need.ghost-result
 ghost-result c =
     let m = c .args .self .now in
-    let hour = within-hour (m .stamp) (m .timed .0) (λ e. c .if-self-eq59 .left (rw (m .timed .2) e)) in (
-      (hour .0, m .timed .1 ∙ sym (hour .1), omega (arith, m .timed .2, hour .2), m .timed .3 ∙ sym (hour .3)),
-      ((m .dated .0, m .dated .1, λ _. c .weekday-of .ensures), tt),
+    let hour = within-hour (m .stamp) (m .timed .0) (omega (arith, m .timed .2)) in (
+      (omega arith, omega (arith, m .timed .1), omega (arith, m .timed .2), m .timed .3 ∙ sym (hour .3)),
+      ((m .dated .0, m .dated .1, λ _. omega arith), tt),
     )

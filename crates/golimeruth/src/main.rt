@@ -1,0 +1,74 @@
+// The console: replays a script of calls and prints every answer.
+mod answers;
+mod commands;
+mod words;
+
+use answers::AnswerDisplay;
+use answers::perform;
+use commands::parse;
+use std::env;
+use std::error::AnyError;
+use std::fs::File;
+use std::io::BufRead;
+use std::io::BufReader;
+use std::io::BufWriter;
+use std::io::Read;
+use std::io::Write;
+use words::SlipDisplay;
+
+fn main(rt: LibcRuntime) -> Result<(), AnyError> {
+    rt.report(run(&rt))
+}
+
+// The script is the file named as the first argument, else standard input.
+fn run(rt: &LibcRuntime) -> Result<(), AnyError> {
+    let mut arguments = env::args(rt)?;
+    let _ = arguments.next();
+    match arguments.next() {
+        Some(path) => replay(rt, BufReader::new(File::open(rt, path.as_str())?)),
+        None => replay(rt, BufReader::new(rt.stdin())),
+    }
+}
+
+fn replay<R: Read + Drop>(rt: &LibcRuntime, mut script: BufReader<R>) -> Result<(), AnyError> {
+    let mut out = BufWriter::new(rt.stdout());
+    let mut line = Vec::new(rt.alloc());
+    for number in 1..u64::MAX {
+        line.clear();
+        if script.read_until(b'\n', &mut line)? == 0 {
+            break;
+        }
+        answer(number, line.as_slice(), &mut out)?;
+    }
+    out.flush()?;
+    Ok(())
+}
+
+fn answer<W: Write>(number: u64, line: &[u8], out: &mut W) -> Result<(), AnyError> {
+    let line = without_end(line);
+    match parse(line) {
+        Ok(None) => {}
+        Ok(Some(command)) => match perform(command) {
+            Ok(answer) => writeln!(out, "{answer}")?,
+            Err(refusal) => {
+                let cause = refusal.cause.number();
+                let side = refusal.side;
+                let place = refusal.place;
+                writeln!(out, "refused {cause} side {side} place {place}")?;
+            }
+        },
+        Err(slip) => {
+            writeln!(out, "bad line {number}: {slip}")?;
+        }
+    }
+    Ok(())
+}
+
+// The line without the end that the script's editor gave it.
+fn without_end(line: &[u8]) -> &[u8] {
+    match line {
+        [text @ .., b'\r', b'\n'] => text,
+        [text @ .., b'\n'] => text,
+        _ => line,
+    }
+}

@@ -1,0 +1,93 @@
+// The words of a line.
+ghost use Prim.Native.Nat.{_≤_};
+ghost use lib.ListN.{length};
+use std::fmt;
+
+// Why a line is no command.
+#[derive(Clone, Copy, PartialEq, Eq, Debug)]
+pub(crate) enum Slip {
+    UnknownCommand,
+    WordMissing,
+    WordTooMany,
+    NotANumber,
+    NumberTooLarge,
+}
+
+pub(crate) impl fmt::Display for Slip as SlipDisplay {
+    fn fmt<W: fmt::Write>(&self, f: &mut fmt::Formatter<W>) -> fmt::Result {
+        f.write_str(
+            match *self {
+                Slip::UnknownCommand => "unknown command",
+                Slip::WordMissing => "word missing",
+                Slip::WordTooMany => "word too many",
+                Slip::NotANumber => "not a number",
+                Slip::NumberTooLarge => "number too large",
+            },
+        )
+    }
+}
+
+// What is left of a line; words are separated by spaces.
+#[derive(Drop)]
+pub(crate) struct Words<'a> {
+    rest: &'a [u8],
+}
+
+impl<'a> Words<'a> {
+    pub(crate) fn new(line: &'a [u8]) -> Words<'a> {
+        Words { rest: line }
+    }
+
+    // The next word, or none at the end of the line.
+    pub(crate) fn next_word(&mut self) -> Option<&'a [u8]> {
+        let line = self.rest;
+        let (_, text) = line.split_at(run_length(line, true));
+        let (word, rest) = text.split_at(run_length(text, false));
+        self.rest = rest;
+        if word.is_empty() { None } else { Some(word) }
+    }
+
+    pub(crate) fn number(&mut self) -> Result<u32, Slip> {
+        let Some(word) = self.next_word() else {
+            return Err(Slip::WordMissing);
+        };
+        decimal(word)
+    }
+
+    pub(crate) fn end(&mut self) -> Result<(), Slip> {
+        match self.next_word() {
+            Some(_) => Err(Slip::WordTooMany),
+            None => Ok(()),
+        }
+    }
+}
+
+// How many bytes at the front are spaces, or are none.
+fn run_length(text: &[u8], spaces: bool) -> usize
+    ensures { λ r. ⌜ r ≤ length (now (text .entry)) ⌝ }
+{
+    for (i, byte) in text.iter().enumerate() {
+        if (*byte == b' ') != spaces {
+            return i;
+        }
+    }
+    text.len()
+}
+
+fn decimal(word: &[u8]) -> Result<u32, Slip> {
+    let mut value: u32 = 0;
+    for byte in word {
+        if *byte < b'0' || *byte > b'9' {
+            return Err(Slip::NotANumber);
+        }
+        let digit = u32::from(*byte - b'0');
+        let Some(tens) = value.checked_mul(10) else {
+            return Err(Slip::NumberTooLarge);
+        };
+        let Some(sum) = tens.checked_add(digit) else {
+            return Err(Slip::NumberTooLarge);
+        };
+        value = sum;
+    }
+    Ok(value)
+}
