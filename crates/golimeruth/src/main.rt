@@ -17,7 +17,11 @@ use std::io::Write;
 use words::SlipDisplay;
 
 fn main(rt: LibcRuntime) -> Result<(), AnyError> {
-    rt.report(run(&rt))
+    let result = run(&rt);
+    if let Err(error) = &result {
+        let _ = eprintln!(rt, "golimeruth: {error}");
+    }
+    result
 }
 
 // The script is the file named as the first argument, else standard input.
@@ -25,7 +29,10 @@ fn run(rt: &LibcRuntime) -> Result<(), AnyError> {
     let mut arguments = env::args(rt)?;
     let _ = arguments.next();
     match arguments.next() {
-        Some(path) => replay(rt, BufReader::new(File::open(rt, path.as_str())?)),
+        Some(path) => match File::open(rt, path.as_str()) {
+            Ok(file) => replay(rt, BufReader::new(file)),
+            Err(error) => Err(format!(rt.alloc(), "{path}: {error}")?.into()),
+        },
         None => replay(rt, BufReader::new(rt.stdin())),
     }
 }

@@ -1,6 +1,7 @@
 // The words of a line.
 ghost use Prim.Native.Nat.{_≤_};
 ghost use lib.ListN.{length};
+ghost use Rattle.golimeruth.specs.Decimal.{Spells};
 use std::fmt;
 
 // Why a line is no command.
@@ -74,20 +75,21 @@ fn run_length(text: &[u8], spaces: bool) -> usize
     text.len()
 }
 
-fn decimal(word: &[u8]) -> Result<u32, Slip> {
-    let mut value: u32 = 0;
+// Any number of this size is too large for a `u32`, however many digits follow.
+const TOO_LARGE: u64 = 4_294_967_296;
+
+fn decimal(word: &[u8]) -> Result<u32, Slip>
+    ensures { λ r. ⌜ Spells (now (word .entry)) r ⌝ }
+{
+    let mut value = 0u64;
     for byte in word {
         if *byte < b'0' || *byte > b'9' {
             return Err(Slip::NotANumber);
         }
-        let digit = u32::from(*byte - b'0');
-        let Some(tens) = value.checked_mul(10) else {
-            return Err(Slip::NumberTooLarge);
-        };
-        let Some(sum) = tens.checked_add(digit) else {
-            return Err(Slip::NumberTooLarge);
-        };
-        value = sum;
+        value = (value * 10 + u64::from(*byte - b'0')).min(TOO_LARGE);
     }
-    Ok(value)
+    if value == TOO_LARGE {
+        return Err(Slip::NumberTooLarge);
+    }
+    Ok(value as u32)
 }

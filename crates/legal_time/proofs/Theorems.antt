@@ -7,8 +7,10 @@ use denote.Struct.Cover.{cover-one}
 use Rattle.std.proofs.shelf.Ways.{tells}
 use Rattle.legal_time.specs.Days.{leapYear, yearLength, monthLength, yearStart, monthStart, dayNumber, lastStarted, yearOf, dayOfYear, monthOf, dayOfMonth, weekdayOf, lastSunday, Valid}
 use Rattle.legal_time.specs.Laws.{OneDate, LastSunday, LastSundays, SummerIntervals, InSummer, OneMoment}
+use Rattle.legal_time.specs.Moments.{momentOf}
 use Rattle.legal_time.specs.Summer.{summerFrom, summerUntil, summerAt, dayOf, minuteOf}
 use Rattle.legal_time.specs.contracts.moments.Moment.{the-type, the-propositions}
+use Rattle.legal_time.specs.declared.moments.Moment.{Moment}
 use Rattle.legal_time.proofs.Started.{last-is}
 use Rattle.legal_time.proofs.Years.{year-start, year-is, month-is, month-more, months-fill, months-rise, month-at-most, date-valid, date-number}
 
@@ -101,8 +103,8 @@ summer-intervals =
       holds = λ s y h. rw (summer-year s y h) (let from = h .2 in let to = h .3 in grind (arith, tells));
     }
 
-pub one-moment : OneMoment
-one-moment m n stamps weekdays =
+pub known-by : (m n : Moment) → m .stamp ≡ n .stamp → m .weekday ≡ n .weekday → m ≡ n
+known-by m n stamps weekdays =
     let days = m .timed .1 ∙ ap (λ s. dayOf s) stamps ∙ sym (n .timed .1) in
     let minutes = m .timed .2 ∙ ap (λ s. minuteOf s) stamps ∙ sym (n .timed .2) in
     let summers = m .timed .3 ∙ ap summerAt stamps ∙ sym (n .timed .3) in
@@ -110,3 +112,7 @@ one-moment m n stamps weekdays =
     let dates = m .dated .1 ∙ ap dayOfMonth days ∙ sym (n .dated .1) in
     cover-one (the-type .cover) the-propositions m n
     (λ i. (stamps i, (days i, (minutes i, (months i, (dates i, (weekdays i, (summers i, tt))))))))
+
+pub one-moment : OneMoment
+unfolding momentOf
+one-moment = record { known-by = known-by; of-stamp = λ s h m is. known-by m (momentOf s h) (is .stamp-is) (is .weekday-is) }

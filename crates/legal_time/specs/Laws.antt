@@ -6,7 +6,7 @@ use lib.Dec.{eqb}
 use Rattle.std.specs.Results.{Cases}
 use Rattle.std.specs.declared.result.Result.{Result}
 use Rattle.legal_time.specs.Days.{Valid, yearOf, monthOf, dayOfMonth, dayNumber, monthLength, weekdayOf, lastSunday}
-use Rattle.legal_time.specs.Moments.{MomentAnswer, StampAnswer}
+use Rattle.legal_time.specs.Moments.{momentOf, MomentOf, MomentAnswer, StampAnswer}
 use Rattle.legal_time.specs.Refusals.{Refused}
 use Rattle.legal_time.specs.Summer.{summerFrom, summerUntil, summerAt, markOf}
 use Rattle.legal_time.specs.declared.moments.Moment.{Moment}
@@ -44,9 +44,10 @@ pub record SummerIntervals : Type 0 where
   pub within : (s : ℕ) → s ≤ 52595939 → summerAt s ≡ true → (y : ℕ) × InSummer y s
   pub holds : (s y : ℕ) → InSummer y s → summerAt s ≡ true
 
--- A moment is known by its stamp and its weekday.
-abbrev pub OneMoment : Type 0
-OneMoment = (m n : Moment) → m .stamp ≡ n .stamp → m .weekday ≡ n .weekday → m ≡ n
+-- A moment is known by its stamp and its weekday, so a stamp has one moment.
+pub record OneMoment : Type 0 where
+  pub known-by : (m n : Moment) → m .stamp ≡ n .stamp → m .weekday ≡ n .weekday → m ≡ n
+  pub of-stamp : (s : ℕ) (h : s ≤ 52595939) (m : Moment) → MomentOf s m → m ≡ momentOf s h
 
 -- what every answer for this stamp says: the date, the minute of day and the mark
 abbrev pub Tells : ℕ → (ℕ × ℕ × ℕ) → ℕ → ℕ → Type 0

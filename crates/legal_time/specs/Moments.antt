@@ -1,5 +1,5 @@
 -- What the calls of legal time answer.
-use mathlib.Core.Path.{_≡_}
+use mathlib.Core.Path.{_≡_, refl}
 use Prim.Native.Nat.{ℕ, _≤_, _<_}
 use Rattle.std.specs.Results.{Cases}
 use Rattle.std.specs.declared.result.Result.{Result}
@@ -8,6 +8,21 @@ use Rattle.legal_time.specs.Refusals.{Refused}
 use Rattle.legal_time.specs.Summer.{dayOf, minuteOf, summerAt, HasLabel}
 use Rattle.legal_time.specs.declared.moments.Moment.{Moment}
 use Rattle.legal_time.specs.declared.refusals.Refusal.{Refusal}
+
+-- the moment of a stamp
+unfoldable pub momentOf : (s : ℕ) → s ≤ 52595939 → Moment
+momentOf s h =
+    record {
+      stamp = s;
+      day = dayOf s;
+      minute = minuteOf s;
+      month = monthOf (dayOf s);
+      «day_of_month» = dayOfMonth (dayOf s);
+      weekday = weekdayOf (dayOf s);
+      summer = summerAt s;
+      timed = (h, refl, refl, refl);
+      dated = (refl, refl, λ _. refl);
+    }
 
 -- m is the moment of the stamp s
 pub record MomentOf (s : ℕ) (m : Moment) : Type 0 where

@@ -30,7 +30,7 @@ pub fn summer_intervals()
     ensures { λ _. ⌜ SummerIntervals ⌝ }
 {}
 
-// Two moments with the same stamp and weekday are the same.
+// Two moments with the same stamp and weekday are the same, so a stamp has one moment.
 pub fn one_moment()
     ensures { λ _. ⌜ OneMoment ⌝ }
 {}
