@@ -1,5 +1,7 @@
 // What the console answers.
+ghost use Rattle.golimeruth.specs.Performed.{Performed};
 use crate::commands::Command;
+use legal_time::Date;
 use legal_time::Moment;
 use legal_time::Refusal;
 use std::fmt;
@@ -10,7 +12,10 @@ pub(crate) enum Answer {
     Stamp(u32),
 }
 
-pub(crate) fn perform(command: Command) -> Result<Answer, Refusal> {
+// Each command makes one call, and its answer is the call's.
+pub(crate) fn perform(command: Command) -> Result<Answer, Refusal>
+    ensures { λ r. ⌜ Performed command r ⌝ }
+{
     match command {
         Command::Time { stamp } => Ok(Answer::Moment(legal_time::moment(stamp)?)),
         Command::Stamp { day, minute, mark } => Ok(Answer::Stamp(
@@ -31,8 +36,11 @@ pub(crate) impl fmt::Display for Answer as AnswerDisplay {
 fn show_moment<W: fmt::Write>(moment: &Moment, f: &mut fmt::Formatter<W>) -> fmt::Result {
     let stamp = moment.stamp();
     let day = moment.day();
-    let date = moment.date();
-    let (year, month, date) = (date.year, date.month, date.day);
+    let Date {
+        year,
+        month,
+        day: date,
+    } = moment.date();
     let weekday = moment.weekday();
     let minute = moment.minute();
     let mark = moment.mark();

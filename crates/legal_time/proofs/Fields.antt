@@ -1,6 +1,5 @@
 -- The bounds of a moment's fields.
 use Prim.Native.Nat.{_≤_, _<_}
-use native.Mathlib.Omega.{arith}
 use Rattle.legal_time.proofs.Summer.{day-bound}
 use Rattle.legal_time.proofs.Years.{month-bound, day-of-month-bound}
 use Rattle.legal_time.specs.declared.moments.Moment.{Moment}

@@ -1,11 +1,11 @@
 -- The one stamp of a label.
-use mathlib.Core.Path.{_≡_, refl, sym, ap, _∙_}
-use mathlib.Core.Bool.{Bool, true, false, cond}
-use Prim.Native.Nat.{ℕ, _+_, _-_, _*_, _/_, _%_, _≤_, _<_}
+use mathlib.Core.Path.{_≡_, refl}
+use mathlib.Core.Bool.{true, false, cond}
+use Prim.Native.Nat.{ℕ, _+_, _*_, _≤_, _<_}
 use native.Mathlib.Omega.{arith}
 use lib.Dec.{eqb}
 use Rattle.std.proofs.shelf.Ways.{tells}
-use Rattle.legal_time.specs.Summer.{summerAt, localOf, dayOf, minuteOf, HasLabel}
+use Rattle.legal_time.specs.Summer.{summerAt, localOf, HasLabel}
 use Rattle.legal_time.proofs.Summer.{day-bound}
 
 module _ (s day minute mark : ℕ) (h : HasLabel s day minute mark) where

@@ -1,18 +1,17 @@
 -- The laws of legal time.
-use mathlib.Core.Path.{_≡_, refl, sym, ap, _∙_}
-use mathlib.Core.Bool.{true, false, cond, _&&_}
-use Prim.Native.Nat.{ℕ, suc, _+_, _-_, _*_, _/_, _%_, _≤_, _<_}
+use mathlib.Core.Path.{_≡_, sym, ap, _∙_}
+use Prim.Native.Nat.{ℕ, suc, _+_, _-_, _/_, _≤_, _<_}
 use native.Mathlib.Omega.{arith}
 use denote.Struct.Cover.{cover-one}
 use Rattle.std.proofs.shelf.Ways.{tells}
-use Rattle.legal_time.specs.Days.{leapYear, yearLength, monthLength, yearStart, monthStart, dayNumber, lastStarted, yearOf, dayOfYear, monthOf, dayOfMonth, weekdayOf, lastSunday, Valid}
+use Rattle.legal_time.specs.Days.{yearLength, monthLength, yearStart, monthStart, dayNumber, lastStarted, yearOf, dayOfYear, monthOf, dayOfMonth, lastSunday, Valid}
 use Rattle.legal_time.specs.Laws.{OneDate, LastSunday, LastSundays, SummerIntervals, InSummer, OneMoment}
 use Rattle.legal_time.specs.Moments.{momentOf}
 use Rattle.legal_time.specs.Summer.{summerFrom, summerUntil, summerAt, dayOf, minuteOf}
 use Rattle.legal_time.specs.contracts.moments.Moment.{the-type, the-propositions}
 use Rattle.legal_time.specs.declared.moments.Moment.{Moment}
 use Rattle.legal_time.proofs.Started.{last-is}
-use Rattle.legal_time.proofs.Years.{year-start, year-is, month-is, month-more, months-fill, months-rise, month-at-most, date-valid, date-number}
+use Rattle.legal_time.proofs.Years.{year-start, year-is, month-is, month-more, months-fill, months-rise, date-valid, date-number}
 
 -- a day between the starts of two years lies in the first
 year-between : (n j : ℕ) → j ≤ 99 → yearStart j ≤ n → n < yearStart (suc j) → yearOf n ≡ 2000 + j

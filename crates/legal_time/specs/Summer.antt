@@ -2,7 +2,7 @@
 -- A stamp counts the minutes from 2000-01-01 00:00 UTC.
 use mathlib.Core.Path.{_≡_}
 use mathlib.Core.Bool.{Bool, cond, _&&_}
-use Prim.Native.Nat.{ℕ, _+_, _*_, _/_, _%_, _≤_, _<_}
+use Prim.Native.Nat.{ℕ, _+_, _*_, _/_, _%_, _≤_}
 use lib.Dec.{eqb, leb, ltb}
 use Rattle.legal_time.specs.Days.{yearOf, monthOf, dayOfMonth, weekdayOf, lastSunday}
 

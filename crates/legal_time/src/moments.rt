@@ -67,7 +67,8 @@ impl Moment {
 
     // The summer mark: 1 in summer time, else 0.
     pub fn mark(&self) -> u32
-        ensures { λ r. ⌜ r ≡ markOf (now (self .entry) .summer) ⌝ }
+        ensures value { λ r. ⌜ r ≡ markOf (now (self .entry) .summer) ⌝ }
+        ensures bound { λ r. ⌜ r ≤ 1 ⌝ }
     {
         u32::from(self.summer)
     }

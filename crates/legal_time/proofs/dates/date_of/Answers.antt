@@ -1,5 +1,5 @@
 use mathlib.Core.Path.{_≡_, sym, ap}
-use Prim.Native.Nat.{_+_, _-_, _*_, _/_, _<_}
+use Prim.Native.Nat.{_+_, _-_, _*_, _/_}
 use native.Mathlib.Omega.{arith}
 use Rattle.legal_time.specs.Days.{monthLength, monthStart}
 use Rattle.legal_time.proofs.Years.{dated, december, month-at-most, month-more, year-is}

@@ -1,4 +1,3 @@
-use mathlib.Core.Path.{_≡_}
 use native.Mathlib.Omega.{arith}
 use Rattle.legal_time.proofs.Summer.{day-bound, local-is}
 use Rattle.legal_time.proofs.stamps.moment.Needs as need

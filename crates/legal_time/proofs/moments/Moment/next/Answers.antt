@@ -1,4 +1,4 @@
-use mathlib.Core.Path.{_≡_, sym, _∙_}
+use mathlib.Core.Path.{sym, _∙_}
 use native.Mathlib.Omega.{arith}
 use Rattle.legal_time.proofs.Fields.{day-within}
 use Rattle.legal_time.proofs.Summer.{within-hour}
