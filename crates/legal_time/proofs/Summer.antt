@@ -38,6 +38,10 @@ summer-over s from to =
     let last : yearOf (s / 1440) ≡ 2099 = omega (arith, year-is (s / 1440) (omega arith)) in
     rw last (grind (arith, tells))
 
+ahead : (s offset : ℕ) (summer : Bool) → summer ≡ summerAt s → offset ≡ cond summer 120 60 → s + offset ≡ localOf s
+unfolding localOf
+ahead s offset summer e o = rw (o, e)
+
 pub day-bound : (s : ℕ) → s ≤ 52595939 → dayOf s < 36525
 unfolding localOf
 day-bound s h =
@@ -46,20 +50,19 @@ day-bound s h =
       | inr after ↦ rw (summer-over s after h) (omega arith)
     ]
 
--- the offset makes local time of a stamp
-pub local-is : (s offset : ℕ) (summer : Bool) → summer ≡ summerAt s → offset ≡ cond summer 120 60 → s + offset ≡ localOf s
-unfolding localOf
-local-is s offset summer e o = rw (o, e)
+-- the offset makes local time of a stamp, within the last day
+pub local-is : (s offset : ℕ) (summer : Bool) → s ≤ 52595939 → summer ≡ summerAt s → offset ≡ cond summer 120 60 → (s + offset ≡ localOf s) × (dayOf s < 36525)
+local-is s offset summer h e o = (ahead s offset summer e o, day-bound s h)
 
 -- within an hour summer time neither begins nor ends
-pub same-summer : (s : ℕ) → s < 52595939 → (s % 60 ≡ 59 → ⊥) → summerAt (s + 1) ≡ summerAt s
+same-summer : (s : ℕ) → s < 52595939 → (s % 60 ≡ 59 → ⊥) → summerAt (s + 1) ≡ summerAt s
 unfolding summerAt summerFrom summerUntil
 same-summer s h inside =
     let day : (s + 1) / 1440 ≡ s / 1440 = omega arith in
     rw day (grind (arith, tells))
 
 -- the minutes of an hour are those of its stamps
-pub same-hour : (s : ℕ) → localOf s % 60 ≡ s % 60
+same-hour : (s : ℕ) → localOf s % 60 ≡ s % 60
 unfolding localOf
 same-hour s = elim (summerAt s) as (λ b. (s + cond b 120 60) % 60 ≡ s % 60) [ true ↦ omega arith | false ↦ omega arith ]
 

@@ -1,8 +1,9 @@
-use mathlib.Core.Path.{ap}
+use mathlib.Core.Path.{_≡_, ap}
+use mathlib.Core.List.{List}
 use Prim.Native.Nat.{ℕ, _+_, _-_, _*_, _≤_}
 use native.Mathlib.Omega.{arith}
 use borrow.Author.Count.{below-more}
-use lib.ListN.{length}
+use lib.ListN.{length, take}
 use Rattle.std.proofs.shelf.Lists.{take-all}
 use Rattle.std.proofs.shelf.Sums.{folded-more}
 use Rattle.golimeruth.specs.Decimal.{spelled}
@@ -15,14 +16,16 @@ loop-byte-again c =
       below-more _ _ (c .loop-byte .inv .1) (omega arith),
     )
 
+-- at the end of the loop all bytes are read
+all-read : (word : List ℕ) (i : ℕ) → length word ≤ i → spelled (take i word) ≡ spelled word
+all-read word i h = ap (λ w. spelled w) (take-all i word h)
+
 pub returns-then-value-eq-TOO-LARGE : need.returns-then-value-eq-TOO-LARGE
 returns-then-value-eq-TOO-LARGE c =
-    let all : length (c .args .word .now) ≤ c .loop-byte .byte-index = omega arith in
-    let whole = ap (λ w. spelled w) (take-all (c .loop-byte .byte-index) (c .args .word .now) all) in
+    let whole = all-read (c .args .word .now) (c .loop-byte .byte-index) (omega arith) in
     (λ k h. c .loop-byte .inv .1 k (omega arith), omega (arith, c .loop-byte .inv .0))
 
 pub returns : need.returns
 returns c =
-    let all : length (c .args .word .now) ≤ c .loop-byte .byte-index = omega arith in
-    let whole = ap (λ w. spelled w) (take-all (c .loop-byte .byte-index) (c .args .word .now) all) in
+    let whole = all-read (c .args .word .now) (c .loop-byte .byte-index) (omega arith) in
     (λ k h. c .loop-byte .inv .1 k (omega arith), omega (arith, c .loop-byte .inv .0))
