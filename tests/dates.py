@@ -67,8 +67,10 @@ def cases():
 def main():
     commands, expected = zip(*cases())
     script = "\n".join(commands) + "\n"
-    run = subprocess.run([sys.argv[1]], input=script, capture_output=True, text=True, check=True)
+    run = subprocess.run([sys.argv[1]], input=script, stdout=subprocess.PIPE, text=True, check=True)
     answers = run.stdout.splitlines()
+    if len(answers) != len(expected):
+        print(f"{len(expected)} commands got {len(answers)} answers")
     wrong = [row for row in zip(commands, expected, answers) if row[1] != row[2]]
     for command, want, got in wrong[:20]:
         print(f"{command}: Python says '{want}', the console '{got}'")

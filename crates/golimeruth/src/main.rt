@@ -28,24 +28,30 @@ fn main(rt: LibcRuntime) -> Result<(), AnyError> {
 fn run(rt: &LibcRuntime) -> Result<(), AnyError> {
     let mut arguments = env::args(rt)?;
     let _ = arguments.next();
-    match arguments.next() {
-        Some(path) => match File::open(rt, path.as_str()) {
-            Ok(file) => replay(rt, BufReader::new(file)),
-            Err(error) => Err(format!(rt.alloc(), "{path}: {error}")?.into()),
-        },
-        None => replay(rt, BufReader::new(rt.stdin())),
+    let Some(path) = arguments.next() else {
+        return replay(rt, "standard input", BufReader::new(rt.stdin()));
+    };
+    match File::open(rt, path.as_str()) {
+        Ok(file) => replay(rt, path.as_str(), BufReader::new(file)),
+        Err(error) => Err(format!(rt.alloc(), "{path}: {error}")?.into()),
     }
 }
 
-fn replay<R: Read + Drop>(rt: &LibcRuntime, mut script: BufReader<R>) -> Result<(), AnyError> {
+fn replay<R: Read + Drop>(
+    rt: &LibcRuntime,
+    name: &str,
+    mut script: BufReader<R>,
+) -> Result<(), AnyError> {
     let mut out = BufWriter::new(rt.stdout());
     let mut line = Vec::new(rt.alloc());
+    // an input need not end, so the lines are counted
     for number in 1..u64::MAX {
         line.clear();
-        if script.read_until(b'\n', &mut line)? == 0 {
-            break;
+        match script.read_until(b'\n', &mut line) {
+            Ok(0) => break,
+            Ok(_) => answer(number, line.as_slice(), &mut out)?,
+            Err(error) => return Err(format!(rt.alloc(), "{name}: {error}")?.into()),
         }
-        answer(number, line.as_slice(), &mut out)?;
     }
     out.flush()?;
     Ok(())

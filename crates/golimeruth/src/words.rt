@@ -42,8 +42,8 @@ impl<'a> Words<'a> {
     // The next word, or none at the end of the line.
     pub(crate) fn next_word(&mut self) -> Option<&'a [u8]> {
         let line = self.rest;
-        let (_, text) = line.split_at(run_length(line, true));
-        let (word, rest) = text.split_at(run_length(text, false));
+        let (_, text) = line.split_at(spaces_before(line));
+        let (word, rest) = text.split_at(word_length(text));
         self.rest = rest;
         if word.is_empty() { None } else { Some(word) }
     }
@@ -63,12 +63,22 @@ impl<'a> Words<'a> {
     }
 }
 
-// How many bytes at the front are spaces, or are none.
-fn run_length(text: &[u8], spaces: bool) -> usize
+fn spaces_before(text: &[u8]) -> usize
     ensures { λ r. ⌜ r ≤ length (now (text .entry)) ⌝ }
 {
     for (i, byte) in text.iter().enumerate() {
-        if (*byte == b' ') != spaces {
+        if *byte != b' ' {
+            return i;
+        }
+    }
+    text.len()
+}
+
+fn word_length(text: &[u8]) -> usize
+    ensures { λ r. ⌜ r ≤ length (now (text .entry)) ⌝ }
+{
+    for (i, byte) in text.iter().enumerate() {
+        if *byte == b' ' {
             return i;
         }
     }

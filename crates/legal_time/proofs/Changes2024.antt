@@ -46,7 +46,7 @@ no-stamp s mark h =
     ]
 
 left-out : (mark : ℕ) → TellsNone 8856 150 mark
-left-out mark (Ok s) h = no-stamp s mark h
+left-out mark (Ok s) h = no-stamp s mark (h .0)
 left-out mark (Err e) h = h .0
 
 pub edges : Edges

@@ -26,10 +26,9 @@ autumn-place k =
     rw (half, odd)
 
 -- summer time lies between the two changes of the stamp's year
-pub summer-between : (s spring autumn : ℕ) → s ≤ 52595939 → spring ≡ changeDay (2 * (4 * (s / 1440) / 1461)) → autumn ≡ changeDay (2 * (4 * (s / 1440) / 1461) + 1) → summerAt s ≡ (leb (spring * 1440 + 60) s && ltb s (autumn * 1440 + 60))
+pub summer-between : (s k spring autumn : ℕ) → 2000 + k ≡ yearOf (s / 1440) → spring ≡ changeDay (2 * k) → autumn ≡ changeDay (2 * k + 1) → summerAt s ≡ (leb (spring * 1440 + 60) s && ltb s (autumn * 1440 + 60))
 unfolding summerAt summerFrom summerUntil
-summer-between s spring autumn h p q =
-    simp (year-is (s / 1440) (omega arith), p, q, spring-place, autumn-place)
+summer-between s k spring autumn year p q = simp (← year, p, q, spring-place, autumn-place)
 
 -- summer time is over before the last hour, so local time never passes the last day
 summer-over : (s : ℕ) → 52595880 ≤ s → s ≤ 52595939 → summerAt s ≡ false

@@ -1,15 +1,11 @@
 -- The table of change days is right, by one test that is computed at each of its 200 entries.
 use mathlib.Core.Path.{_≡_, refl}
-use mathlib.Core.Bool.{Bool, true, _&&_}
 use mathlib.Core.List.{List, [], _∷_}
-use Prim.Native.Nat.{ℕ, zero, suc, _+_, _<_}
-use native.Mathlib.Nat.{add-zero, add-suc, suc-add, zero-add}
-use native.Mathlib.Omega.{arith}
-use lib.Dec.{eqb}
-use lib.ListN.{length, getD}
-use Rattle.std.proofs.shelf.Tests.{and-parts, eqb-true}
+use Prim.Native.Nat.{ℕ, _<_}
+use lib.ListN.{getD}
 use Rattle.legal_time.specs.Days.{leapYear, yearLength, monthLength, yearStart, monthStart, dayNumber, lastSunday}
 use Rattle.legal_time.specs.Summer.{changeDay}
+use Rattle.legal_time.proofs.Years.{all-equal}
 
 abbrev pub changeDays : List ℕ
 changeDays =
@@ -29,20 +25,6 @@ changeDays =
     ∷ 33692 ∷ 33902 ∷ 34056 ∷ 34266 ∷ 34420 ∷ 34637 ∷ 34784 ∷ 35001 ∷ 35148 ∷ 35365 ∷ 35519 ∷ 35729 ∷ 35883 ∷
     36093 ∷ 36247 ∷ 36457 ∷ []
 
--- each entry is the value of the rule at its place, counted from i
-abbrev every : (ℕ → ℕ) → ℕ → List ℕ → Bool
-every rule i [] = true
-every rule i (x ∷ xs) = eqb x (rule i) && every rule (suc i) xs
-
-at : (rule : ℕ → ℕ) (i : ℕ) (xs : List ℕ) → every rule i xs ≡ true → (k : ℕ) → k < length xs → getD xs k 0 ≡ rule (i + k)
-at rule i [] t k h = omega arith
-at rule i (x ∷ xs) t zero h = rw add-zero (eqb-true x (rule i) (and-parts (eqb x (rule i)) (every rule (suc i) xs) t .0))
-at rule i (x ∷ xs) t (suc k) h =
-    rw (add-suc, ← suc-add) (at rule (suc i) xs (and-parts (eqb x (rule i)) (every rule (suc i) xs) t .1) k (omega arith))
-
-table-right : every changeDay 0 changeDays ≡ true
-unfolding changeDay lastSunday dayNumber monthStart monthLength yearStart yearLength leapYear
-table-right = refl
-
 pub change-day-at : (place : ℕ) → place < 200 → getD changeDays place 0 ≡ changeDay place
-change-day-at place h = rw zero-add at (at changeDay 0 changeDays table-right place h)
+unfolding changeDay lastSunday dayNumber monthStart monthLength yearStart yearLength leapYear
+change-day-at = all-equal (λ place. getD changeDays place 0) changeDay 200 refl

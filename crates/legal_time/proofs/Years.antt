@@ -1,5 +1,5 @@
 -- Years and months of a day number, from 2000 to 2099.
-use mathlib.Core.Path.{_≡_, refl, ap, _∙_}
+use mathlib.Core.Path.{_≡_, refl, sym, ap, _∙_}
 use mathlib.Core.Bool.{Bool, true, false, cond, _&&_}
 use mathlib.Core.Logic.{inl, inr}
 use Prim.Native.Nat.{ℕ, zero, suc, _+_, _-_, _*_, _/_, _%_, _≤_, _<_}
@@ -37,12 +37,6 @@ pub year-is : (n : ℕ) → n < 36525 → yearOf n ≡ 2000 + 4 * n / 1461
 unfolding yearOf
 year-is n h = ap (λ k. 2000 + k) (years-is n h)
 
-pub day-of-year-is : (n : ℕ) → n < 36525 → dayOfYear n ≡ n - (1461 * (4 * n / 1461) + 3) / 4
-unfolding dayOfYear
-day-of-year-is n h =
-    let e : yearOf n - 2000 ≡ 4 * n / 1461 = omega (arith, year-is n h) in
-    simp e (omega (arith, year-start (4 * n / 1461) (omega arith)))
-
 pub month-more : (y m : ℕ) → 1 ≤ m → monthStart y m ≡ monthStart y (m - 1) + monthLength y m
 unfolding monthStart
 month-more y zero h = omega arith
@@ -74,30 +68,42 @@ pub month-at-most : (y m : ℕ) → monthLength y m ≤ 31
 unfolding monthLength
 month-at-most y m = grind (arith, tells)
 
--- a day lies in its year
-pub year-holds : (n : ℕ) → n < 36525 → n - (1461 * (4 * n / 1461) + 3) / 4 < yearLength (2000 + 4 * n / 1461)
-unfolding yearStart
-year-holds n h =
-    omega (arith, year-start (4 * n / 1461) (omega arith), year-start (suc (4 * n / 1461)) (omega arith))
+-- a day n whose year is 2000 + k
+module _ (n k : ℕ) (h : n < 36525) (year : 2000 + k ≡ yearOf n) where
+  place : k ≡ 4 * n / 1461
+  place = omega (arith, year-is n h)
 
--- what the eleven months before leave lies in December
-pub december : (n left : ℕ) → n < 36525 → left + monthStart (2000 + 4 * n / 1461) 11 ≡ n - (1461 * (4 * n / 1461) + 3) / 4 → left < 31
-unfolding monthStart monthLength
-december n left h e = omega (arith, months-fill (2000 + 4 * n / 1461), year-holds n h)
+  pub year-started : (1461 * k + 3) / 4 ≤ n
+  year-started = omega (arith, place)
 
--- month and date of a day, by the days that are left of its year in the month m
-pub dated : (n m left : ℕ) → n < 36525 → 1 ≤ m → m ≤ 12 → left + monthStart (2000 + 4 * n / 1461) (m - 1) ≡ n - (1461 * (4 * n / 1461) + 3) / 4 → left < monthLength (2000 + 4 * n / 1461) m → (m ≡ monthOf n) × (left + 1 ≡ dayOfMonth n)
-unfolding monthOf dayOfMonth
-dated n zero left h from to e l = omega arith
-dated n (suc k) left h from to e l =
-    let before : suc k - 1 ≡ k = omega arith in
-    let passed : left + monthStart (2000 + 4 * n / 1461) k ≡ n - (1461 * (4 * n / 1461) + 3) / 4 = rw before at e in
-    let month : lastStarted (monthStart (yearOf n)) 11 (dayOfYear n) ≡ k =
-    simp (year-is n h, day-of-year-is n h) (month-is _ _ k left (omega arith) passed l) in
-    let months : 1 + lastStarted (monthStart (yearOf n)) 11 (dayOfYear n) - 1 ≡ k = omega arith in
-    let start : monthStart (yearOf n) (1 + lastStarted (monthStart (yearOf n)) 11 (dayOfYear n) - 1) ≡ monthStart (2000 + 4 * n / 1461) k =
-    ap (monthStart (yearOf n)) months ∙ ap (λ y. monthStart y k) (year-is n h) in
-    (omega arith, omega (arith, day-of-year-is n h))
+  day-of-year-is : dayOfYear n ≡ n - (1461 * k + 3) / 4
+  unfolding dayOfYear
+  day-of-year-is =
+      let years : yearOf n - 2000 ≡ k = omega arith in
+      simp years (omega (arith, year-start k (omega (arith, place))))
+
+  year-holds : n - (1461 * k + 3) / 4 < yearLength (2000 + k)
+  unfolding yearStart
+  year-holds = omega (arith, place, year-start k (omega (arith, place)), year-start (suc k) (omega (arith, place)))
+
+  -- what the eleven months before leave lies in December
+  pub december : (left : ℕ) → left + monthStart (2000 + k) 11 ≡ n - (1461 * k + 3) / 4 → left < 31
+  unfolding monthStart monthLength
+  december left e = omega (arith, months-fill (2000 + k), year-holds)
+
+  -- month and day of the month, by the days that are left of the year in the month m
+  pub dated : (m left : ℕ) → 1 ≤ m → m ≤ 12 → left + monthStart (2000 + k) (m - 1) ≡ n - (1461 * k + 3) / 4 → left < monthLength (2000 + k) m → (m ≡ monthOf n) × (left + 1 ≡ dayOfMonth n)
+  unfolding monthOf dayOfMonth
+  dated zero left from to e l = omega arith
+  dated (suc i) left from to e l =
+      let before : suc i - 1 ≡ i = omega arith in
+      let passed : left + monthStart (2000 + k) i ≡ n - (1461 * k + 3) / 4 = rw before at e in
+      let found : lastStarted (monthStart (yearOf n)) 11 (dayOfYear n) ≡ i =
+      simp (← year, day-of-year-is) (month-is _ _ i left (omega arith) passed l) in
+      let months : 1 + lastStarted (monthStart (yearOf n)) 11 (dayOfYear n) - 1 ≡ i = omega arith in
+      let start : monthStart (yearOf n) (1 + lastStarted (monthStart (yearOf n)) 11 (dayOfYear n) - 1) ≡ monthStart (2000 + k) i =
+      ap (monthStart (yearOf n)) months ∙ ap (λ y. monthStart y i) (sym year) in
+      (omega arith, omega (arith, day-of-year-is))
 
 january-first : (y n : ℕ) → monthStart y 0 ≤ n
 unfolding monthStart
@@ -116,7 +122,9 @@ in-month y n m h e =
     )
 
 day-in-year : (n : ℕ) → n < 36525 → dayOfYear n < yearLength (yearOf n)
-day-in-year n h = simp (day-of-year-is n h, year-is n h) (year-holds n h)
+day-in-year n h =
+    let year : 2000 + 4 * n / 1461 ≡ yearOf n = sym (year-is n h) in
+    simp (day-of-year-is n (4 * n / 1461) h year, year-is n h) (year-holds n (4 * n / 1461) h year)
 
 day-in-month : (n : ℕ) → n < 36525 → (monthStart (yearOf n) (monthOf n - 1) ≤ dayOfYear n) × (dayOfYear n < monthStart (yearOf n) (monthOf n))
 unfolding monthOf

@@ -8,7 +8,7 @@ use Rattle.std.specs.declared.result.Result.{Result}
 use Rattle.legal_time.specs.Days.{Valid, yearOf, monthOf, dayOfMonth, dayNumber, monthLength, weekdayOf, lastSunday}
 use Rattle.legal_time.specs.Moments.{momentOf, MomentOf, MomentAnswer, StampAnswer}
 use Rattle.legal_time.specs.Refusals.{Refused}
-use Rattle.legal_time.specs.Summer.{summerFrom, summerUntil, summerAt, markOf}
+use Rattle.legal_time.specs.Summer.{summerFrom, summerUntil, summerAt, markOf, HasLabel}
 use Rattle.legal_time.specs.declared.moments.Moment.{Moment}
 use Rattle.legal_time.specs.declared.refusals.Refusal.{Refusal}
 
@@ -48,6 +48,18 @@ pub record SummerIntervals : Type 0 where
 pub record OneMoment : Type 0 where
   pub known-by : (m n : Moment) → m .stamp ≡ n .stamp → m .weekday ≡ n .weekday → m ≡ n
   pub of-stamp : (s : ℕ) (h : s ≤ 52595939) (m : Moment) → MomentOf s m → m ≡ momentOf s h
+
+-- From a stamp to its label and back is the stamp: every answer for the label of a stamp's moment is that stamp.
+abbrev pub ThereAndBack : Type 0
+ThereAndBack =
+    (s : ℕ) (m : Moment) → MomentOf s m → (r : Result ℕ Refusal) → StampAnswer (m .day) (m .minute) (markOf (m .summer)) r →
+    Cases r (λ t. t ≡ s) (λ e. ⊥)
+
+-- From a label to its stamp and on is the label: every answer for the stamp of a label has that label.
+abbrev pub BackAndThere : Type 0
+BackAndThere =
+    (day minute mark s : ℕ) → HasLabel s day minute mark → (r : Result Moment Refusal) → MomentAnswer s r →
+    Cases r (λ m. (m .day ≡ day) × (m .minute ≡ minute) × (markOf (m .summer) ≡ mark)) (λ e. ⊥)
 
 -- what every answer for this stamp says: the date, the minute of day and the mark
 abbrev pub Tells : ℕ → (ℕ × ℕ × ℕ) → ℕ → ℕ → Type 0

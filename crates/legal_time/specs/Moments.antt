@@ -39,10 +39,10 @@ pub record MomentOf (s : ℕ) (m : Moment) : Type 0 where
 abbrev pub MomentAnswer : ℕ → Result Moment Refusal → Type 0
 MomentAnswer s r = Cases r (λ m. MomentOf s m) (λ e. Refused e 4 0 0 × (52595939 < s))
 
--- the stamp with this label, or 16 where no stamp has it
+-- the one stamp with this label, or 16 where no stamp has it
 abbrev pub StampAnswer : ℕ → ℕ → ℕ → Result ℕ Refusal → Type 0
 StampAnswer day minute mark r =
-    Cases r (λ s. HasLabel s day minute mark) (λ e. Refused e 16 0 0 × ((s : ℕ) → HasLabel s day minute mark → ⊥))
+    Cases r (λ s. HasLabel s day minute mark × ((t : ℕ) → HasLabel t day minute mark → t ≡ s)) (λ e. Refused e 16 0 0 × ((s : ℕ) → HasLabel s day minute mark → ⊥))
 
 -- n is the moment m with its weekday replaced by 7
 pub record SundayOf (m n : Moment) : Type 0 where

@@ -17,7 +17,7 @@ summerFrom y = lastSunday y 3 * 1440 + 60
 unfoldable pub summerUntil : ℕ → ℕ
 summerUntil y = lastSunday y 10 * 1440 + 60
 
--- whether summer time holds at the stamp s, by the year of its day
+-- whether summer time holds at the stamp s, by the year of its UTC day
 unfoldable pub summerAt : ℕ → Bool
 summerAt s = leb (summerFrom (yearOf (s / 1440))) s && ltb s (summerUntil (yearOf (s / 1440)))
 

@@ -2,6 +2,8 @@
 ghost use mathlib.Core.Path.{_≡_};
 ghost use Prim.Native.Nat.{_<_, _≤_};
 ghost use Rattle.legal_time.specs.Summer.{changeDay, summerAt};
+use crate::dates::DAY_MINUTES;
+use crate::dates::years_before;
 
 // The days on which local time changes, as day numbers: for each year from 2000 to 2099 the last Sunday of March, then
 // that of October.
@@ -208,9 +210,6 @@ static CHANGE_DAYS: [u16; 200] = [
     36457,
 ];
 
-// Minutes from midnight UTC to the change.
-const CHANGE_MINUTE: u32 = 60;
-
 fn change_day(place: u32) -> u16
     requires { ⌜ place < 200 ⌝ }
     ensures { λ r. ⌜ r ≡ changeDay place ⌝ }
@@ -218,14 +217,13 @@ fn change_day(place: u32) -> u16
     CHANGE_DAYS[place as usize]
 }
 
-// The year gives the place in the table, so nothing is searched.
+// Local time changes at 01:00 UTC. The year gives the place in the table, so nothing is searched.
 pub(crate) fn is_summer(stamp: u32) -> bool
     requires { ⌜ stamp ≤ 52595939 ⌝ }
     ensures { λ r. ⌜ r ≡ summerAt stamp ⌝ }
 {
-    let years = 4 * (stamp / 1440) / 1461;
+    let years = years_before(stamp / DAY_MINUTES);
     let spring = change_day(2 * years);
     let autumn = change_day(2 * years + 1);
-    u32::from(spring) * 1440 + CHANGE_MINUTE <= stamp
-        && stamp < u32::from(autumn) * 1440 + CHANGE_MINUTE
+    u32::from(spring) * DAY_MINUTES + 60 <= stamp && stamp < u32::from(autumn) * DAY_MINUTES + 60
 }

@@ -1,7 +1,9 @@
-// Dates of day numbers.
+// Days and dates.
 ghost use mathlib.Core.Path.{_≡_};
 ghost use Prim.Native.Nat.{_<_, _≤_, _+_};
 ghost use Rattle.legal_time.specs.Days.{monthLength, yearOf, monthOf, dayOfMonth};
+
+pub(crate) const DAY_MINUTES: u32 = 1440;
 
 #[derive(Clone, Copy, PartialEq, Eq, Debug)]
 pub struct Date {
@@ -23,14 +25,22 @@ fn month_length(year: u32, month: u8) -> u32
     }
 }
 
-// Four years have 1,461 days, so the year needs no search.
+// The years from 2000 to that of a day. Four years have 1,461 days, so nothing is searched.
+pub(crate) fn years_before(day: u32) -> u32
+    requires { ⌜ day < 36525 ⌝ }
+    ensures year { λ r. ⌜ 2000 + r ≡ yearOf day ⌝ }
+    ensures bound { λ r. ⌜ r < 100 ⌝ }
+{
+    4 * day / 1461
+}
+
 pub(crate) fn date_of(day: u32) -> Date
     requires { ⌜ day < 36525 ⌝ }
     ensures year { λ r. ⌜ r .year ≡ yearOf day ⌝ }
     ensures month { λ r. ⌜ r .month ≡ monthOf day ⌝ }
-    ensures date { λ r. ⌜ r .day ≡ dayOfMonth day ⌝ }
+    ensures day { λ r. ⌜ r .day ≡ dayOfMonth day ⌝ }
 {
-    let years = 4 * day / 1461;
+    let years = years_before(day);
     let year = 2000 + years;
     let mut left = day - (1461 * years + 3) / 4;
     for month in 1..12 {

@@ -1,9 +1,10 @@
 // The laws of legal time. Each function here exists for its contract, a theorem that the check then asks for.
 ghost use mathlib.Core.Path.{_≡_};
 ghost use Prim.Native.Nat.{ℕ, _<_, _≤_};
-ghost use Rattle.legal_time.specs.Laws.{OneDate, WeekdaysFollow, LastSundays, SummerIntervals, OneMoment, Edges};
+ghost use Rattle.legal_time.specs.Laws.{OneDate, WeekdaysFollow, LastSundays, SummerIntervals, OneMoment, ThereAndBack, BackAndThere, Edges};
+ghost use Rattle.legal_time.specs.Moments.{MomentOf};
 ghost use Rattle.legal_time.specs.Refusals.{Refused};
-ghost use Rattle.legal_time.specs.Summer.{HasLabel, markOf};
+ghost use Rattle.legal_time.specs.Summer.{HasLabel};
 ghost use Rattle.std.specs.Results.{Cases};
 use crate::moments::Moment;
 use crate::refusals::Refusal;
@@ -37,7 +38,8 @@ pub fn one_moment()
 
 // From a stamp to its label and back is the same stamp.
 pub fn there_and_back(from: u32) -> Result<u32, Refusal>
-    ensures { λ r. ⌜ Cases r (λ s. (s ≡ from) × (from ≤ 52595939)) (λ e. Refused e 4 0 0 × (52595939 < from)) ⌝ }
+    ensures law { λ _. ⌜ ThereAndBack ⌝ }
+    ensures answer { λ r. ⌜ Cases r (λ s. (s ≡ from) × (from ≤ 52595939)) (λ e. Refused e 4 0 0 × (52595939 < from)) ⌝ }
 {
     let there = moment(from)?;
     stamp(there.day(), u32::from(there.minute()), there.mark())
@@ -45,7 +47,8 @@ pub fn there_and_back(from: u32) -> Result<u32, Refusal>
 
 // From a label to its stamp and on to its moment is the same label.
 pub fn back_and_there(day: u32, minute: u32, mark: u32) -> Result<Moment, Refusal>
-    ensures { λ r. ⌜ Cases r (λ m. (m .day ≡ day) × (m .minute ≡ minute) × (markOf (m .summer) ≡ mark)) (λ e. Refused e 16 0 0 × ((s : ℕ) → HasLabel s day minute mark → ⊥)) ⌝ }
+    ensures law { λ _. ⌜ BackAndThere ⌝ }
+    ensures answer { λ r. ⌜ Cases r (λ m. MomentOf (m .stamp) m × HasLabel (m .stamp) day minute mark) (λ e. Refused e 16 0 0 × ((s : ℕ) → HasLabel s day minute mark → ⊥)) ⌝ }
 {
     moment(stamp(day, minute, mark)?)
 }

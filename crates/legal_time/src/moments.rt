@@ -65,7 +65,7 @@ impl Moment {
         self.minute
     }
 
-    // The summer mark: 1 in summer time, else 0.
+    // The summer mark, 1 in summer time and else 0, as a label has it.
     pub fn mark(&self) -> u32
         ensures value { λ r. ⌜ r ≡ markOf (now (self .entry) .summer) ⌝ }
         ensures bound { λ r. ⌜ r ≤ 1 ⌝ }

@@ -59,7 +59,7 @@ impl Cause {
     }
 }
 
-// A refusal: its cause, the grid or file that it concerns (0 for none) and the place of the fault (0 unless one is named).
+// A refusal: its cause, the grid that it concerns (0 for none) and the place of the fault (0 unless one is named).
 #[derive(Clone, Copy, PartialEq, Eq, Debug)]
 pub struct Refusal {
     pub cause: Cause,

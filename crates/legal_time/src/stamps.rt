@@ -5,6 +5,7 @@ ghost use Prim.Native.Nat.{_<_, _+_};
 ghost use Rattle.legal_time.specs.Days.{weekdayOf};
 ghost use Rattle.legal_time.specs.Moments.{MomentAnswer, StampAnswer, SundayOf};
 use crate::changes::is_summer;
+use crate::dates::DAY_MINUTES;
 use crate::dates::date_of;
 use crate::moments::Moment;
 use crate::refusals::Cause;
@@ -14,8 +15,6 @@ use crate::refusals::Refusal;
 const LAST_STAMP: u32 = 52_595_939;
 
 const LAST_DAY: u32 = 36_524;
-
-const DAY_MINUTES: u32 = 1440;
 
 // Minutes that local time is ahead of UTC.
 fn offset_of(summer: bool) -> u32

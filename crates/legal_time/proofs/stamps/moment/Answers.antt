@@ -17,5 +17,5 @@ ghost-result c =
     let local = local-is (c .args .stamp) _ _ (omega arith) (c .is-summer-summer .ensures) (c .offset-of .ensures) in
     let date = c .date-of-date .ensures in (
       (omega arith, omega arith, omega arith, c .is-summer-summer .ensures),
-      ((date .month, date .date, λ _. omega arith), tt),
+      ((date .month, date .day, λ _. omega arith), tt),
     )

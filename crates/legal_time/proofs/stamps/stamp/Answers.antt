@@ -5,7 +5,7 @@ use native.Mathlib.Omega.{arith}
 use borrow.Author.Needs.{needs}
 use Rattle.std.proofs.shelf.Tests.{true≢false, false≢true}
 use Rattle.legal_time.specs.Summer.{summerAt}
-use Rattle.legal_time.proofs.Labels.{label-summer, label-local, label-bounds, label-found}
+use Rattle.legal_time.proofs.Labels.{label-summer, label-local, label-bounds, label-found, one-stamp}
 use Rattle.legal_time.proofs.stamps.stamp.Needs as need
 use Rattle.legal_time.proofs.stamps.stamp.Needs.{then-local-offset·by·then-local-offset, then-local-offset·by·else-local-offset·then-is-summer-summer}
 
@@ -39,5 +39,7 @@ returns-then-local-offset c = (
 
 pub returns : need.returns
 returns c =
+    let found =
     label-found _ _ _ _ (omega arith) (omega arith) (omega arith) (omega (arith, c .offset-of-offset .ensures))
-    (sym (c .is-summer .ensures) ∙ same _ _ (c .if-is-summer-summer .left))
+    (sym (c .is-summer .ensures) ∙ same _ _ (c .if-is-summer-summer .left)) in
+    (found, λ t h. one-stamp t _ _ _ _ h found)

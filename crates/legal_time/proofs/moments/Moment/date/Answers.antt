@@ -10,4 +10,4 @@ pub returns : need.returns
 returns c =
     let date = c .date-of .ensures in
     let within = day-within (c .args .self .now) in
-    simp (date .year, date .month, date .date) (record { valid = date-valid _ within; number = date-number _ within })
+    simp (date .year, date .month, date .day) (record { valid = date-valid _ (omega arith); number = date-number _ (omega arith) })
