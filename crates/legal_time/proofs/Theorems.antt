@@ -68,7 +68,7 @@ module _ (y m d : ℕ) (v : Valid y m d) where
 pub one-date : OneDate
 one-date =
     record {
-      of-day = λ n h. (date-valid n h, date-number n h);
+      of-day = λ n h. (date-valid n (omega arith), date-number n (omega arith));
       of-date = λ y m d v. (date-below y m d v, year-of-date y m d v, month-of-date y m d v, month-day-of-date y m d v);
     }
 

@@ -31,9 +31,6 @@ left-in-december c =
     let last : c .loop-month .month - 1 ≡ 11 = omega arith in
     omega (arith, ap (monthStart (2000 + c .years-before-years .result)) last)
 
-pub add-result-2 : need.add-result-2
-add-result-2 c = omega (arith, december _ _ (c .pre) (c .years-before-years .ensures .year) _ (left-in-december c))
-
 pub cast-result-3 : need.cast-result-3
 cast-result-3 c = omega (arith, december _ _ (c .pre) (c .years-before-years .ensures .year) _ (left-in-december c))
 
