@@ -53,9 +53,9 @@ pub edges : Edges
 unfolding summerAt summerFrom summerUntil lastSunday dayNumber monthStart monthLength yearStart yearLength leapYear yearOf lastStarted localOf dayOfYear monthOf dayOfMonth
 edges =
     record {
-      before-spring = told 12752699 2024 3 31 119 0 (omega arith) refl refl refl refl refl;
-      from-spring = told 12752700 2024 3 31 180 1 (omega arith) refl refl refl refl refl;
-      before-autumn = told 13055099 2024 10 27 179 1 (omega arith) refl refl refl refl refl;
-      from-autumn = told 13055100 2024 10 27 120 0 (omega arith) refl refl refl refl refl;
+      before-spring = told 12752699 2024 3 31 _ _ (omega arith) refl refl refl refl refl;
+      from-spring = told 12752700 2024 3 31 _ _ (omega arith) refl refl refl refl refl;
+      before-autumn = told 13055099 2024 10 27 _ _ (omega arith) refl refl refl refl refl;
+      from-autumn = told 13055100 2024 10 27 _ _ (omega arith) refl refl refl refl refl;
       left-out = left-out;
     }
