@@ -3,6 +3,8 @@
 // `Calendar` is the interface that licensees implement; its contracts say what every calendar means. `MonthCalendar` and
 // `DateCalendar` are filled by programmes, byte strings of a fixed layout, and `OrderLayer` adds mobile orders to any
 // calendar below it.
+#![tactic(auto)]
+
 mod calendar;
 mod dates;
 mod decoding;

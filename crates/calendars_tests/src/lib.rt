@@ -1,4 +1,6 @@
 // Examples of calendars, run as tests.
+#![tactic(auto)]
+
 #[cfg(test)]
 mod faults;
 #[cfg(test)]

@@ -1,4 +1,6 @@
 // The console: replays a script of calls and prints every answer.
+#![tactic(auto)]
+
 mod answers;
 mod commands;
 mod words;

@@ -2,6 +2,8 @@
 //
 // A stamp counts the minutes from 2000-01-01 00:00 UTC and runs to 52,595,939. `moment` gives a stamp its local label,
 // `stamp` finds the stamp of a label, and `Moment::next` steps from one minute to the next.
+#![tactic(auto)]
+
 mod changes;
 mod dates;
 pub mod laws;

@@ -1,4 +1,6 @@
 // Examples of legal time, run as tests.
+#![tactic(auto)]
+
 #[cfg(test)]
 mod tests {
     use legal_time::{Cause, Date, Moment, Refusal, moment, stamp};

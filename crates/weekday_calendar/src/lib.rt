@@ -3,6 +3,8 @@
 //
 // Its programme has 8 bytes: the letters WD, the hour at which the peak begins (0 to 23), the hour at which it ends
 // (later, at most 24), the peak period and the off-peak period (1 to 8), and two bytes that are zero.
+#![tactic(auto)]
+
 mod rates;
 
 ghost use Rattle.std.specs.Prelude.{◌≡◌, [], length, take};

@@ -2,20 +2,21 @@ use Rattle.std.proofs.Common.{arith}
 use Rattle.legal_time.proofs.Summer.{local_is}
 use Rattle.legal_time.proofs.stamps.moment.Goals as goal
 
-pub date-of-date-requires : goal.date-of-date-requires
-date-of-date-requires c =
-    let local = local_is c.args.stamp _ _ (omega arith) c.is-summer-summer.ensures c.offset-of.ensures in
+pub date_of-date-requires : goal.date_of-date-requires
+date_of-date-requires c =
+    let local = local_is c.args.stamp _ _ (omega arith) c.is_summer-summer.ensures c.offset_of.ensures in
     omega arith
 
-pub weekday-of-requires : goal.weekday-of-requires
-weekday-of-requires c =
-    let local = local_is c.args.stamp _ _ (omega arith) c.is-summer-summer.ensures c.offset-of.ensures in
+pub weekday_of-requires : goal.weekday_of-requires
+weekday_of-requires c =
+    let local = local_is c.args.stamp _ _ (omega arith) c.is_summer-summer.ensures c.offset_of.ensures in
     omega arith
 
-pub invariant-of-result : goal.invariant-of-result
-invariant-of-result c =
-    let local = local_is c.args.stamp _ _ (omega arith) c.is-summer-summer.ensures c.offset-of.ensures in
-    let date = c.date-of-date.ensures in (
-      (omega arith, omega arith, omega arith, c.is-summer-summer.ensures),
-      ((date.month, date.day, λ _. omega arith), tt),
-    )
+pub invariant_of-result : goal.invariant_of-result
+invariant_of-result c =
+    let local = local_is c.args.stamp _ _ (omega arith) c.is_summer-summer.ensures c.offset_of.ensures in
+    let date = c.date_of-date.ensures in
+    record {
+      timed = (omega arith, omega arith, omega arith, c.is_summer-summer.ensures);
+      dated = (date.month, date.day, λ _. omega arith);
+    }

@@ -3,13 +3,14 @@ use Rattle.legal_time.proofs.Fields.{day_within}
 use Rattle.legal_time.proofs.Summer.{within_hour}
 use Rattle.legal_time.proofs.moments.Moment.next.Goals as goal
 
-pub weekday-of-requires : goal.weekday-of-requires
-weekday-of-requires c = day_within c.args.self.now
+pub weekday_of-requires : goal.weekday_of-requires
+weekday_of-requires c = day_within c.args.self.now
 
-pub invariant-of-result : goal.invariant-of-result
-invariant-of-result c =
+pub invariant_of-result : goal.invariant_of-result
+invariant_of-result c =
     let m = c.args.self.now in
-    let hour = within_hour m.stamp m.timed.0 (omega (arith, m.timed.2)) in (
-      (omega arith, omega (arith, m.timed.1), omega (arith, m.timed.2), m.timed.3 ∙ sym hour.3),
-      ((m.dated.0, m.dated.1, λ _. omega arith), tt),
-    )
+    let hour = within_hour m.stamp m.timed.0 (omega (arith, m.timed.2)) in
+    record {
+      timed = (omega arith, omega (arith, m.timed.1), omega (arith, m.timed.2), m.timed.3 ∙ sym hour.3);
+      dated = (m.dated.0, m.dated.1, λ _. omega arith);
+    }
