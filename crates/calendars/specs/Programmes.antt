@@ -3,7 +3,7 @@ use Rattle.std.specs.Prelude.{ℕ, ◌+◌, ◌-◌, ◌*◌, Bool, cond, ◌&&�
 use Rattle.legal_time.specs.Days.{month_length}
 use Rattle.calendars.specs.Fields.{Field, field, first_wrong, parts, passed, byte_at, wide_at, up_to, marked, choice, day_at, label_fields}
 use Rattle.calendars.specs.Layouts.{month_tables, date_tables}
-use Rattle.calendars.specs.Meanings.{Plan, Verdict, reads, faults}
+use Rattle.calendars.specs.Meanings.{Plan, Verdict, faults}
 use Rattle.calendars.specs.declared.profiles.DayProfile.{DayProfile}
 use Rattle.calendars.specs.declared.profiles.Season.{Season}
 use Rattle.calendars.specs.declared.profiles.Slot.{Slot}

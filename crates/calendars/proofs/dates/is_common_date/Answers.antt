@@ -3,10 +3,10 @@ use Rattle.std.proofs.lemmas.Bool.Decides.{nat_tests}
 use Rattle.calendars.specs.Programmes.{common_date}
 use Rattle.calendars.proofs.dates.is_common_date.Goals as goal
 
-pub returns-then-up-to : goal.returns-then-up-to
+pub returns-then-up_to : goal.returns-then-up_to
 unfolding common_date
-returns-then-up-to c = grind (arith, nat_tests)
+returns-then-up_to c = grind (arith, nat_tests)
 
-pub returns-else-up-to : goal.returns-else-up-to
+pub returns-else-up_to : goal.returns-else-up_to
 unfolding common_date
-returns-else-up-to c = grind (arith, nat_tests)
+returns-else-up_to c = grind (arith, nat_tests)

@@ -15,6 +15,6 @@ pub returns-else-k-eq0 : goal.returns-else-k-eq0
 unfolding date_lawful
 returns-else-k-eq0 c = grind (arith, nat_tests)
 
-pub returns-else-is-common-date : goal.returns-else-is-common-date
+pub returns-else-is_common_date : goal.returns-else-is_common_date
 unfolding date_lawful
-returns-else-is-common-date c = grind (arith, nat_tests)
+returns-else-is_common_date c = grind (arith, nat_tests)

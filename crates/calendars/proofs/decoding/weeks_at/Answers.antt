@@ -8,7 +8,7 @@ pub loop-k-init : goal.loop-k-init
 loop-k-init g c = (length-replicate _ _, refl)
 
 pub loop-k-preserved : goal.loop-k-preserved
-loop-k-preserved g c = filled_more _ _ _ _ _ c.loop-k.invariant (omega arith) c.bytes-at.ensures
+loop-k-preserved g c = filled_more _ _ _ _ _ c.loop-k.invariant (omega arith) c.bytes_at.ensures
 
 pub returns : goal.returns
 unfolding weeks_in

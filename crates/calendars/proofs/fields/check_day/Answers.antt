@@ -4,29 +4,29 @@ use Rattle.calendars.specs.Fields.{day_fields, up_to}
 use Rattle.calendars.specs.Checks.{field_stop, field_on, loop-more, loop-stop, loop-all}
 use Rattle.calendars.proofs.fields.check_day.Goals as goal
 
-pub returns-in-err-check-field : goal.returns-in-err-check-field
+pub returns-in_err-check_field : goal.returns-in_err-check_field
 unfolding day_fields
-returns-in-err-check-field c =
-    let p = err_from_is_err_and c.from-residual.result c.from-residual.ensures.1 in
+returns-in_err-check_field c =
+    let p = err_from_is_err_and c.from_residual.result c.from_residual.ensures.1 in
     rw (p.1, p.2)
     (field_stop _ _ _ (up_to c.args.room (get_or c.args.bytes.now c.args.base 0)) _ _
-    (rw c.up-to.ensures at c.in-err-check-field.ensures))
+    (rw c.up_to.ensures at c.in_err-check_field.ensures))
 
-pub returns-in-err-check-slot : goal.returns-in-err-check-slot
+pub returns-in_err-check_slot : goal.returns-in_err-check_slot
 unfolding day_fields
-returns-in-err-check-slot c =
-    let p = err_from_is_err_and c.from-residual-in-err-check-slot.result c.from-residual-in-err-check-slot.ensures.1 in
+returns-in_err-check_slot c =
+    let p = err_from_is_err_and c.from_residual-in_err-check_slot.result c.from_residual-in_err-check_slot.ensures.1 in
     rw (p.1, p.2)
     (field_on (up_to c.args.room (get_or c.args.bytes.now c.args.base 0)) _ _ _
-    (rw c.up-to.ensures at c.in-ok-check-field.ensures)
-    (loop-stop _ _ _ c.loop-i.invariant _ _ _ (omega arith) c.in-err-check-slot.ensures))
+    (rw c.up_to.ensures at c.in_ok-check_field.ensures)
+    (loop-stop _ _ _ c.loop-i.invariant _ _ _ (omega arith) c.in_err-check_slot.ensures))
 
 pub loop-i-preserved : goal.loop-i-preserved
-loop-i-preserved c = loop-more _ _ _ c.loop-i.invariant (omega arith) c.in-ok-check-slot.ensures
+loop-i-preserved c = loop-more _ _ _ c.loop-i.invariant (omega arith) c.in_ok-check_slot.ensures
 
 pub returns : goal.returns
 unfolding day_fields
 returns c =
     field_on (up_to c.args.room (get_or c.args.bytes.now c.args.base 0)) _ _ _
-    (rw c.up-to.ensures at c.in-ok-check-field.ensures)
+    (rw c.up_to.ensures at c.in_ok-check_field.ensures)
     (loop-all _ _ _ c.loop-i.invariant (omega arith))

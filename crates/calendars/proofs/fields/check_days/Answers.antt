@@ -5,20 +5,20 @@ use Rattle.calendars.specs.Checks.{loop-more, loop-stop, loop-all}
 use Rattle.calendars.proofs.Rows.{stride}
 use Rattle.calendars.proofs.fields.check_days.Goals as goal
 
-pub check-day-requires : goal.check-day-requires
-check-day-requires c =
+pub check_day-requires : goal.check_day-requires
+check_day-requires c =
     let room = stride (1 + 3 * c.args.room) c.loop-k.k c.args.count (omega arith) in
     (omega arith, (omega arith, omega arith))
 
-pub returns-in-err-check-day : goal.returns-in-err-check-day
+pub returns-in_err-check_day : goal.returns-in_err-check_day
 unfolding day_at
-returns-in-err-check-day c =
-    let p = err_from_is_err_and c.from-residual.result c.from-residual.ensures.1 in
-    rw (p.1, p.2) (loop-stop _ _ _ c.loop-k.invariant _ _ _ (omega arith) c.in-err-check-day.ensures)
+returns-in_err-check_day c =
+    let p = err_from_is_err_and c.from_residual.result c.from_residual.ensures.1 in
+    rw (p.1, p.2) (loop-stop _ _ _ c.loop-k.invariant _ _ _ (omega arith) c.in_err-check_day.ensures)
 
 pub loop-k-preserved : goal.loop-k-preserved
 unfolding day_at
-loop-k-preserved c = loop-more _ _ _ c.loop-k.invariant (omega arith) c.in-ok-check-day.ensures
+loop-k-preserved c = loop-more _ _ _ c.loop-k.invariant (omega arith) c.in_ok-check_day.ensures
 
 pub returns : goal.returns
 returns c = loop-all _ _ _ c.loop-k.invariant (omega arith)

@@ -5,4 +5,4 @@ use Rattle.calendars.proofs.fields.check_label.Goals as goal
 
 pub returns : goal.returns
 unfolding label_fields
-returns c = grind (arith, nat_tests, c.if-is-printable.branch)
+returns c = grind (arith, nat_tests, c.if-is_printable.branch)

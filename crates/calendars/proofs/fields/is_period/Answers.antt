@@ -7,10 +7,10 @@ pub returns-then-i-bytes : goal.returns-then-i-bytes
 unfolding period_lawful
 returns-then-i-bytes c = grind (arith, nat_tests)
 
-pub returns-then-up-to : goal.returns-then-up-to
+pub returns-then-up_to : goal.returns-then-up_to
 unfolding period_lawful
-returns-then-up-to c = grind (arith, nat_tests)
+returns-then-up_to c = grind (arith, nat_tests)
 
-pub returns-else-up-to : goal.returns-else-up-to
+pub returns-else-up_to : goal.returns-else-up_to
 unfolding period_lawful
-returns-else-up-to c = grind (arith, nat_tests)
+returns-else-up_to c = grind (arith, nat_tests)

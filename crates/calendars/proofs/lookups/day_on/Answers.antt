@@ -8,5 +8,5 @@ pub returns : goal.returns
 returns c =
     record {
       value = search rules;
-      bound = λ n e. c.day-in.ensures.bound n (every_at (every (up_to n)) _ _ _ (omega arith) e);
+      bound = λ n e. c.day_in.ensures.bound n (every_at (every (up_to n)) _ _ _ (omega arith) e);
     }

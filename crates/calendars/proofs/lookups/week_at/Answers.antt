@@ -3,7 +3,7 @@ use Rattle.calendars.specs.Programmes.{week_of}
 use Rattle.calendars.specs.Kept.{week_kept}
 use Rattle.calendars.proofs.lookups.week_at.Goals as goal
 
-value : (c : goal.After-week-in) → c.week-in.result ≡ week_of c.args.seasons.now c.args.count c.args.date
+value : (c : goal.After-week_in) → c.week_in.result ≡ week_of c.args.seasons.now c.args.count c.args.date
 unfolding week_of
 value c = search rules
 

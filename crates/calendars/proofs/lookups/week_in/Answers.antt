@@ -4,7 +4,7 @@ use Rattle.calendars.specs.Programmes.{blank_season, week_among, date_of}
 use Rattle.calendars.specs.declared.profiles.Season.{Season}
 use Rattle.calendars.specs.Begun.{last_yes, last_no, last_all}
 use Rattle.calendars.proofs.lookups.week_in.Goals as goal
-use Rattle.calendars.proofs.lookups.week_in.Goals.{then-date-number-date, else-date-number-date}
+use Rattle.calendars.proofs.lookups.week_in.Goals.{then-date_number-date, else-date_number-date}
 
 pub loop-season-init : goal.loop-season-init
 unfolding week_among
@@ -14,11 +14,11 @@ pub loop-season-preserved : goal.loop-season-preserved
 loop-season-preserved c =
     let h : c.loop-season.season-index < length c.args.seasons.now = omega arith in
     let begun = λ (season : Season). leb (date_of season) c.args.date in
-    elim c.if-date-number-date.branch [
-      | then-date-number-date w ↦
-          rw w.week-is (c.loop-season.invariant ∙ last_yes begun (λ season. season.week) _ _ _ blank_season h (le-leb _ _ (omega (arith, c.date-number.ensures, w.if-date-number-date.true))))
-      | else-date-number-date w ↦
-          rw w.week-is (c.loop-season.invariant ∙ last_no begun (λ season. season.week) _ _ _ blank_season h (lt-leb _ _ (omega (arith, c.date-number.ensures, w.if-date-number-date.false))))
+    elim c.if-date_number-date.branch [
+      | then-date_number-date w ↦
+          rw w.week-is (c.loop-season.invariant ∙ last_yes begun (λ season. season.week) _ _ _ blank_season h (le-leb _ _ (omega (arith, c.date_number.ensures, w.if-date_number-date.true))))
+      | else-date_number-date w ↦
+          rw w.week-is (c.loop-season.invariant ∙ last_no begun (λ season. season.week) _ _ _ blank_season h (lt-leb _ _ (omega (arith, c.date_number.ensures, w.if-date_number-date.false))))
     ]
 
 pub returns : goal.returns

@@ -14,12 +14,12 @@ further o os i l t = at_drop_more (overlaps o) os i blank l ∙ ap (λ b. b || o
 
 pub returns-then-overlaps : goal.returns-then-overlaps
 returns-then-overlaps c =
-    let e = here c.args.new.now c.as-slice-order-items.result.now c.loop-order.order-index c.loop-order-test.true c.if-overlaps.ensures in cc
+    let e = here c.args.new.now c.as_slice-order-items.result.now c.loop-order.order-index c.loop-order-test.true c.if-overlaps.ensures in cc
 
 pub loop-order-preserved : goal.loop-order-preserved
 loop-order-preserved c =
-    c.loop-order.invariant ∙ further c.args.new.now c.as-slice-order-items.result.now c.loop-order.order-index c.loop-order-test.true c.if-overlaps.ensures
+    c.loop-order.invariant ∙ further c.args.new.now c.as_slice-order-items.result.now c.loop-order.order-index c.loop-order-test.true c.if-overlaps.ensures
 
 pub returns : goal.returns
 returns c =
-    let e = at_drop_all (overlaps c.args.new.now) c.as-slice-order-items.result.now c.loop-order.order-index c.loop-order-test.false in cc
+    let e = at_drop_all (overlaps c.args.new.now) c.as_slice-order-items.result.now c.loop-order.order-index c.loop-order-test.false in cc

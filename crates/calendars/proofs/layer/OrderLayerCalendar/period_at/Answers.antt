@@ -6,4 +6,4 @@ pub returns-in-Some : goal.returns-in-Some
 returns-in-Some g c = laid_told _ _ _ _ _ c.stamp.ensures.value c.in-Some.ensures
 
 pub returns-in-None : goal.returns-in-None
-returns-in-None g c = c.period-at-in-None.ensures ∙ laid_told _ _ _ _ _ c.stamp.ensures.value c.in-None.ensures
+returns-in-None g c = c.period_at-in-None.ensures ∙ laid_told _ _ _ _ _ c.stamp.ensures.value c.in-None.ensures
