@@ -1,7 +1,7 @@
 -- Orders that can be held together, and what stays of it when some end and one comes.
 use Rattle.std.specs.Prelude.{◌≡◌, ℕ, zero, suc, ◌<◌, Bool, true, false, not, ◌&&◌, List, [], ◌∷◌, ◌++◌, length, filter, slice_index_or, refl}
 use Rattle.std.proofs.Common.{ap, arith}
-use Rattle.std.specs.List.{AllByRecursion as All}
+use Rattle.std.specs.List.{AllByRecursion}
 use Rattle.std.proofs.lemmas.Bool.{and_parts, and_from, or_parts, or_from, not-true, not_from_false, both_ways, cond_both}
 use Rattle.std.proofs.lemmas.Bool.Decides.{nat_tests}
 use Rattle.calendars.specs.Orders.{Holds, IsOrder, Apart, shaped, overlap, overlaps, compatible}
@@ -36,7 +36,7 @@ first_from o os s a h =
     and_from (shaped o) (not (overlaps o os) && compatible os) s
     (and_from (not (overlaps o os)) (compatible os) (not_from_false (overlaps o os) a) h)
 
-pub all_orders : (os : List Order) → compatible os ≡ true → All IsOrder os
+pub all_orders : (os : List Order) → compatible os ≡ true → AllByRecursion IsOrder os
 all_orders [] h = tt
 all_orders (o ∷ os) h = let p = first_of o os h in (is_order o p.0, all_orders os p.2)
 

@@ -1,7 +1,7 @@
 -- Maps with orders laid over them.
 use Rattle.std.specs.Prelude.{◌≡◌, ℕ, zero, suc, ◌<◌, Bool, true, false, cond, List, [], ◌∷◌, length, get_or, Some, None, Option, slice_index_or, refl}
 use Rattle.std.proofs.Common.{sym, ap, ◌∙◌, arith}
-use Rattle.std.specs.List.{AllByRecursion as All}
+use Rattle.std.specs.List.{AllByRecursion}
 use Rattle.std.proofs.lemmas.Bool.{cond_both, cond-true, cond-false}
 use Rattle.std.proofs.lemmas.Bool.Decides.{nat_tests}
 use Rattle.legal_time.specs.declared.Moment.{Moment}
@@ -45,19 +45,19 @@ laid_by_order (o ∷ os) plan m (suc i) d a l h =
     let alone : Holds o m.stamp → ⊥ = λ k. let e = a 0 (suc i) m.stamp d (omega arith) l k h in omega arith in
     cond-false (holds o m.stamp) o.period (laid os plan m) (holds_not o m.stamp alone) ∙ laid_by_order os plan m i d (apart_rest o os a) (omega arith) h
 
-pub laid_by_map : (os : List Order) (plan : Plan) (m : Moment) → All (λ o. Holds o m.stamp → ⊥) os → laid os plan m ≡ plan m
+pub laid_by_map : (os : List Order) (plan : Plan) (m : Moment) → AllByRecursion (λ o. Holds o m.stamp → ⊥) os → laid os plan m ≡ plan m
 unfolding laid
 laid_by_map [] plan m h = refl
 laid_by_map (o ∷ os) plan m h =
     cond-false (holds o m.stamp) o.period (laid os plan m) (holds_not o m.stamp h.0) ∙ laid_by_map os plan m h.1
 
-pub laid_lawful : (os : List Order) (plan : Plan) → All IsOrder os → Lawful plan → Lawful (laid os plan)
+pub laid_lawful : (os : List Order) (plan : Plan) → AllByRecursion IsOrder os → Lawful plan → Lawful (laid os plan)
 unfolding laid
 laid_lawful [] plan h l m = l m
 laid_lawful (o ∷ os) plan h l m =
     cond_both (holds o m.stamp) o.period (laid os plan m) IsPeriod
     (λ _. (h.0.period_from, h.0.period_to)) (λ _. laid_lawful os plan h.1 l m)
 
-pub carried_lawful : (os : List Order) (v : Verdict Plan) → All IsOrder os → LawfulVerdict v → LawfulVerdict (carried (laid os) v)
+pub carried_lawful : (os : List Order) (v : Verdict Plan) → AllByRecursion IsOrder os → LawfulVerdict v → LawfulVerdict (carried (laid os) v)
 carried_lawful os (reads plan) h l = laid_lawful os plan h l
 carried_lawful os (faults number place) h l = tt

@@ -1,6 +1,6 @@
 -- The laws of orders and calendars.
 use Rattle.std.specs.Prelude.{◌≡◌, ℕ, suc, ◌+◌, ◌-◌, ◌*◌, ◌<◌, ◌≤◌, max, true, List, ◌∷◌, ◌++◌, length, get_or, take, replicate, codes, Decides, slice_index_or}
-use Rattle.std.specs.List.{AllByRecursion as All}
+use Rattle.std.specs.List.{AllByRecursion}
 use Rattle.legal_time.specs.Refusals.{Reply}
 use Rattle.legal_time.specs.declared.Moment.{Moment}
 use Rattle.calendars.specs.Layouts.{profile_in, date_tables}
@@ -26,7 +26,7 @@ pub record OverlappingOrders : Type 0 where
 -- Of orders that share no stamp, the one that holds a moment's stamp tells its period. Where none does, the map tells it.
 pub record ToldByOneOrder : Type 0 where
   pub by_order : (os : List Order) (plan : Plan) (m : Moment) (i : ℕ) (d : Order) → Apart os → i < length os → Holds (slice_index_or os i d) m.stamp → laid os plan m ≡ (get_or os i d).period
-  pub by_map : (os : List Order) (plan : Plan) (m : Moment) → All (λ o. Holds o m.stamp → ⊥) os → laid os plan m ≡ plan m
+  pub by_map : (os : List Order) (plan : Plan) (m : Moment) → AllByRecursion (λ o. Holds o m.stamp → ⊥) os → laid os plan m ≡ plan m
 
 -- what a calendar with these orders tells of a moment once a programme is read and holds: the map's period under the
 -- orders, or the fault

@@ -1,6 +1,6 @@
 // What a calendar is: the interface that licensees implement.
 ghost use Rattle.std.specs.Prelude.{◌≡◌, ℕ, false, List, is_ok};
-ghost use Rattle.std.specs.List.{AllByRecursion as All};
+ghost use Rattle.std.specs.List.{AllByRecursion};
 ghost use Rattle.legal_time.specs.Refusals.{reply_of};
 ghost use Rattle.calendars.specs.Meanings.{Plan, Lawful, LawfulVerdict, Verdict, checked, staged, asked};
 ghost use Rattle.calendars.specs.Orders.{IsOrder, Apart, laid, order_no, ordered};
@@ -62,7 +62,7 @@ pub trait Calendar {
 
     ghost legible: { (c : Self) (bytes : List ℕ) → LawfulVerdict (reading c bytes) };
 
-    ghost sound: { (c : Self) → All IsOrder (orders c) };
+    ghost sound: { (c : Self) → AllByRecursion IsOrder (orders c) };
 
     ghost apart: { (c : Self) → Apart (orders c) };
 }

@@ -150,7 +150,7 @@ fn hexadecimal(heap: Global, word: &[u8]) -> Result<Vec<u8>, Unread>
     ensures { SpellsBytes word.now result }
 {
     let mut bytes = Vec::new(heap);
-    if word == [b'-'] {
+    if word == b"-".as_slice() {
         return Ok(bytes);
     }
     if word.len() % 2 != 0 {

@@ -18,7 +18,7 @@ one plan m e = rw e
 pub returns : goal.returns
 returns c =
     let m = c.args.moment in
-    let own = bare _ _ _ m c.told.ensures c.with-orders-own.ensures.orders (one _ m c.with-orders-own.ensures.current) in
+    let own = bare _ _ _ m c.told.ensures c.with_orders-own.ensures.orders (one _ m c.with_orders-own.ensures.current) in
     let below = bare _ _ _ m refl (rw c.new-piled.ensures.below c.new-2.ensures.orders) (one _ m (rw (c.new-piled.ensures.below, c.new-2.ensures.below) c.new.ensures.current)) in
     let piled = bare _ _ _ m c.told-2.ensures c.new-piled.ensures.orders below in
     rw (own, piled)

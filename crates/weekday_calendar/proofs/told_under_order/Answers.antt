@@ -24,8 +24,8 @@ told v clock order before m os plan period e f g h p = let t = over v clock orde
 
 pub returns : goal.returns
 returns c =
-    let staging = c.in-ok-stage.ensures in
-    let ordering = c.in-ok-order.ensures in
+    let staging = c.in_ok-stage.ensures in
+    let ordering = c.in_ok-order.ensures in
     let none : take c.activate.new.self.held.count c.activate.new.self.held.orders ≡ [] = cc in
     told _ _ _ _ _ _ _ _ staging.answer (rw none at ordering.answer) (rw none at ordering.orders)
-    (ordering.current ∙ c.activate.ensures.current ∙ staging.upcoming) c.period-at.ensures
+    (ordering.current ∙ c.activate.ensures.current ∙ staging.upcoming) c.period_at.ensures

@@ -15,6 +15,6 @@ told (faults number place) before current s p m taken is at tells = let z : ◌�
 
 pub returns : goal.returns
 returns g c =
-    told (g.P.Programme.reading c.args.programme.now) _ _ c.args.stamp _ c.in-ok-moment.moment
-    c.in-ok-stage.ensures.answer (c.activate.ensures.current ∙ c.stage.ensures.upcoming)
-    c.in-ok-moment.ensures c.period-at.ensures
+    told (g.P.Programme.reading c.args.programme.now) _ _ c.args.stamp _ c.in_ok-moment.moment
+    c.in_ok-stage.ensures.answer (c.activate.ensures.current ∙ c.stage.ensures.upcoming)
+    c.in_ok-moment.ensures c.period_at.ensures

@@ -15,8 +15,8 @@ loop-byte-preserved c =
 all_read : (word : List ℕ) (i : ℕ) → length word ≤ i → spelled (take i word) ≡ spelled word
 all_read word i h = ap (λ w. spelled w) (take_all i word h)
 
-pub returns-then-value-eq-TOO-LARGE : goal.returns-then-value-eq-TOO-LARGE
-returns-then-value-eq-TOO-LARGE c =
+pub returns-then-value-eq-TOO_LARGE : goal.returns-then-value-eq-TOO_LARGE
+returns-then-value-eq-TOO_LARGE c =
     let whole = all_read c.args.word.now c.loop-byte.byte-index (omega arith) in
     (λ k h. c.loop-byte.invariant.1 k (omega arith), omega (arith, c.loop-byte.invariant.0))
 
