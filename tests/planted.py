@@ -27,7 +27,7 @@ def bugs(word):
 
 def check(copy, crate):
     """The verdict and the first lines that say why."""
-    run = subprocess.run(["rt", "check", crate], cwd=copy, capture_output=True, text=True)
+    run = subprocess.run(["rt", "check"], cwd=copy / "crates" / crate, capture_output=True, text=True)
     said = (run.stdout + run.stderr).split("\n")
     why = [line for line in said if "it is not proved" in line or ": error" in line]
     return run.returncode == 0, (why or [""])[0].replace(str(copy) + "/", "")[:160]
@@ -38,7 +38,7 @@ def main():
     passed = planted = 0
     with tempfile.TemporaryDirectory() as folder:
         copy = pathlib.Path(folder) / "copy"
-        shutil.copytree(HOME, copy, ignore=shutil.ignore_patterns(".git"))
+        shutil.copytree(HOME, copy, ignore=shutil.ignore_patterns(".git", "out"))
         for file, title, old, new in bugs(word):
             path = copy / "crates" / file
             text = path.read_text(encoding="utf-8")

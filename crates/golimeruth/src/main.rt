@@ -12,14 +12,17 @@ use std::alloc::{AllocError, Global};
 use std::env;
 use std::fs::File;
 use std::io::{BufRead, BufReader, BufWriter, Read, Write};
+use std::process::ExitCode;
 use words::Unread;
 
-fn main(rt: HostRuntime) -> anyhow::Result<()> {
-    let result = run(&rt);
-    if let Err(error) = &result {
-        let _ = eprintln!(rt; "golimeruth: {error}");
+fn main(rt: HostRuntime) -> ExitCode {
+    match run(&rt) {
+        Ok(()) => ExitCode::SUCCESS,
+        Err(error) => {
+            let _ = eprintln!(rt; "golimeruth: {error}");
+            ExitCode::FAILURE
+        }
     }
-    result
 }
 
 // The script is the file named as the first argument, else standard input.

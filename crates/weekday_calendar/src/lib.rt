@@ -14,7 +14,7 @@ ghost use Rattle.calendars.specs.Meanings.{alone, planned, unprogrammed};
 ghost use Rattle.calendars.specs.Orders.{laid};
 ghost use Rattle.weekday_calendar.specs.Weekdays.{plan_of, weekday_fields, weekday_reading, ordered_over};
 ghost use Rattle.weekday_calendar.specs.WeekdayCalendarCalendarLemmas.{planned_lawful};
-ghost use borrow.Author.Rules.{rules};
+ghost use Rattle.std.proofs.Common.{rules};
 
 use calendars::{Calendar, DateCalendar, Order, OrderLayer, Programme, refuse_order};
 use legal_time::{Cause, Moment, Refusal};
