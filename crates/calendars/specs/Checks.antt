@@ -54,12 +54,12 @@ module _ (fs gs : List Field) where
 
 -- A loop over parts keeps that what is left decides.
 module _ (f : ℕ → List Field) (n i : ℕ) (whole : first_wrong (parts f 0 n) ≡ first_wrong (parts f i (n - i))) where
-  pub loop-more : i < n → gives tt ≡ found (first_wrong (f i)) → first_wrong (parts f 0 n) ≡ first_wrong (parts f (i + 1) (n - (i + 1)))
-  loop-more h part = whole ∙ more f i n h ∙ goes_on (first_wrong (f i)) _ part
+  pub loop_more : i < n → gives tt ≡ found (first_wrong (f i)) → first_wrong (parts f 0 n) ≡ first_wrong (parts f (i + 1) (n - (i + 1)))
+  loop_more h part = whole ∙ more f i n h ∙ goes_on (first_wrong (f i)) _ part
 
-  pub loop-stop : (number side place : ℕ) → i < n → refuses number side place ≡ found (first_wrong (f i)) → refuses number side place ≡ found (first_wrong (parts f 0 n))
-  loop-stop number side place h part = rw (whole ∙ more f i n h) (stops number side place (first_wrong (f i)) _ part)
+  pub loop_stop : (number side place : ℕ) → i < n → refuses number side place ≡ found (first_wrong (f i)) → refuses number side place ≡ found (first_wrong (parts f 0 n))
+  loop_stop number side place h part = rw (whole ∙ more f i n h) (stops number side place (first_wrong (f i)) _ part)
 
-  pub loop-all : n ≤ i → gives tt ≡ found (first_wrong (parts f 0 n))
+  pub loop_all : n ≤ i → gives tt ≡ found (first_wrong (parts f 0 n))
   unfolding parts
-  loop-all h = let none : n - i ≡ 0 = omega arith in rw (whole, none)
+  loop_all h = let none : n - i ≡ 0 = omega arith in rw (whole, none)

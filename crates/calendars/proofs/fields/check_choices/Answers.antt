@@ -1,18 +1,18 @@
 use Rattle.std.proofs.Common.{arith}
 use Rattle.std.proofs.lemmas.Result.{err_from_is_err_and}
 use Rattle.calendars.specs.Fields.{choice}
-use Rattle.calendars.specs.Checks.{loop-more, loop-stop, loop-all}
+use Rattle.calendars.specs.Checks.{loop_more, loop_stop, loop_all}
 use Rattle.calendars.proofs.fields.check_choices.Goals as goal
 
 pub returns-in_err-check_field : goal.returns-in_err-check_field
 unfolding choice
 returns-in_err-check_field c =
     let p = err_from_is_err_and c.from_residual.result c.from_residual.ensures.1 in
-    rw (p.1, p.2) (loop-stop _ _ _ c.loop-k.invariant _ _ _ (omega arith) (rw c.up_to.ensures at c.in_err-check_field.ensures))
+    rw (p.1, p.2) (loop_stop _ _ _ c.loop-k.invariant _ _ _ (omega arith) (rw c.up_to.ensures at c.in_err-check_field.ensures))
 
 pub loop-k-preserved : goal.loop-k-preserved
 unfolding choice
-loop-k-preserved c = loop-more _ _ _ c.loop-k.invariant (omega arith) (rw c.up_to.ensures at c.in_ok-check_field.ensures)
+loop-k-preserved c = loop_more _ _ _ c.loop-k.invariant (omega arith) (rw c.up_to.ensures at c.in_ok-check_field.ensures)
 
 pub returns : goal.returns
-returns c = loop-all _ _ _ c.loop-k.invariant (omega arith)
+returns c = loop_all _ _ _ c.loop-k.invariant (omega arith)
