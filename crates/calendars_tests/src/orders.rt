@@ -1,6 +1,6 @@
 // Orders over a calendar.
 use crate::programmes::{plain_date, put};
-use calendars::{Calendar, DateCalendar, MonthCalendar, Order, OrderLayer, Programme};
+use calendars::{Calendar, DateCalendar, MonthCalendar, Order, OrderLayer};
 use legal_time::moment;
 use std::process::Abort;
 use std::test::Fail;

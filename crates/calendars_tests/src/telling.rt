@@ -1,6 +1,6 @@
 // What calendars tell.
 use crate::programmes::{put, three_seasons, two_seasons};
-use calendars::{Calendar, DateCalendar, MonthCalendar, Programme};
+use calendars::{Calendar, DateCalendar, MonthCalendar};
 use legal_time::{Moment, Refusal, moment, stamp};
 use std::process::Abort;
 use std::test::Fail;

@@ -16,7 +16,7 @@ ghost use Rattle.weekday_calendar.specs.Weekdays.{plan_of, weekday_fields, weekd
 ghost use Rattle.weekday_calendar.specs.WeekdayCalendarCalendarLemmas.{planned_lawful};
 ghost use Rattle.std.proofs.Common.{rules};
 
-use calendars::{Calendar, DateCalendar, Order, OrderLayer, Programme, refuse_order};
+use calendars::{Calendar, DateCalendar, Order, OrderLayer, refuse_order};
 use legal_time::{Cause, Moment, Refusal};
 use rates::Rates;
 
