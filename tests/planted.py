@@ -29,7 +29,7 @@ def check(copy, crate):
     """The verdict and the first lines that say why."""
     run = subprocess.run(["rt", "check"], cwd=copy / "crates" / crate, capture_output=True, text=True)
     said = (run.stdout + run.stderr).split("\n")
-    why = [line for line in said if "it is not proved" in line or ": error" in line]
+    why = [line for line in said if any(word in line for word in ("it is not proved", "found no proof", ": error"))]
     return run.returncode == 0, (why or [""])[0].replace(str(copy) + "/", "")[:160]
 
 
