@@ -7,10 +7,6 @@ use Rattle.std.proofs.lemmas.Bool.Decides.{nat_tests}
 use Rattle.calendars.specs.Orders.{Holds, IsOrder, Apart, shaped, overlap, overlaps, compatible}
 use Rattle.calendars.specs.declared.orders.Order.{Order}
 
--- what a place past the end reads as
-abbrev pub blank : Order
-blank = record { start = 0; length = 0; period = 0 }
-
 pub is_order : (o : Order) → shaped o ≡ true → IsOrder o
 is_order o h = record { length_from = grind (arith, nat_tests); length_to = grind (arith, nat_tests); period_from = grind (arith, nat_tests); period_to = grind (arith, nat_tests) }
 

@@ -1,5 +1,5 @@
 -- Maps with orders laid over them.
-use Rattle.std.specs.Prelude.{◌≡◌, ℕ, zero, suc, ◌<◌, Bool, true, false, cond, List, [], ◌∷◌, length, get_or, Some, None, Option, slice_index_or, refl}
+use Rattle.std.specs.Prelude.{◌≡◌, ℕ, zero, suc, ◌<◌, Bool, true, false, cond, List, [], ◌∷◌, length, slice_index_or, Some, None, Option, find, option_map, refl}
 use Rattle.std.proofs.Common.{sym, ap, ◌∙◌, arith}
 use Rattle.std.specs.List.{AllByRecursion}
 use Rattle.std.proofs.lemmas.Bool.{cond_both, cond-true, cond-false}
@@ -14,15 +14,15 @@ abbrev pub ruled : Option ℕ → ℕ → ℕ
 ruled (Some period) other = period
 ruled None other = other
 
-ruled_cond : (b : Bool) (p : ℕ) (o : Option ℕ) (q : ℕ) → cond b p (ruled o q) ≡ ruled (cond b (Some p) o) q
-ruled_cond true p o q = refl
-ruled_cond false p o q = refl
+ruled_cond : (b : Bool) (o : Order) (found : Option Order) (q : ℕ) → cond b o.period (ruled (option_map (λ p. p.period) found) q) ≡ ruled (option_map (λ p. p.period) (cond b (Some o) found)) q
+ruled_cond true o found q = refl
+ruled_cond false o found q = refl
 
 laid_ruled : (os : List Order) (plan : Plan) (m : Moment) → laid os plan m ≡ ruled (ruling os m.stamp) (plan m)
 unfolding laid
 laid_ruled [] plan m = refl
 laid_ruled (o ∷ os) plan m =
-    ap (λ p. cond (holds o m.stamp) o.period p) (laid_ruled os plan m) ∙ ruled_cond (holds o m.stamp) o.period (ruling os m.stamp) (plan m)
+    ap (λ p. cond (holds o m.stamp) o.period p) (laid_ruled os plan m) ∙ ruled_cond (holds o m.stamp) o (find (λ p. holds p m.stamp) os) (plan m)
 
 pub laid_told : (os : List Order) (plan : Plan) (m : Moment) (s : ℕ) (o : Option ℕ) → s ≡ m.stamp → o ≡ ruling os s → ruled o (plan m) ≡ laid os plan m
 laid_told os plan m s o e r = ap (λ x. ruled x (plan m)) (r ∙ ap (ruling os) e) ∙ sym (laid_ruled os plan m)
@@ -37,7 +37,7 @@ holds_not o s h = grind (arith, nat_tests)
 apart_rest : (o : Order) (os : List Order) → Apart (o ∷ os) → Apart os
 apart_rest o os a i j s d li lj hi hj = let e = a (suc i) (suc j) s d (omega arith) (omega arith) hi hj in omega arith
 
-pub laid_by_order : (os : List Order) (plan : Plan) (m : Moment) (i : ℕ) (d : Order) → Apart os → i < length os → Holds (slice_index_or os i d) m.stamp → laid os plan m ≡ (get_or os i d).period
+pub laid_by_order : (os : List Order) (plan : Plan) (m : Moment) (i : ℕ) (d : Order) → Apart os → i < length os → Holds (slice_index_or os i d) m.stamp → laid os plan m ≡ (slice_index_or os i d).period
 unfolding laid
 laid_by_order [] plan m i d a l h = absurd (omega arith)
 laid_by_order (o ∷ os) plan m zero d a l h = cond-true (holds o m.stamp) o.period (laid os plan m) (holds_from o m.stamp h)

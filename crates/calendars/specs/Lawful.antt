@@ -10,20 +10,21 @@ use Rattle.std.proofs.lemmas.Bool.Decides.{nat_tests}
 use Rattle.calendars.specs.Fields.{Field, first_wrong, parts, byte_at, wide_at, start_at, period_at, up_to, choice, start_lawful, period_lawful, slot_fields, day_fields, day_at}
 use Rattle.calendars.specs.Layouts.{row, bytes_in, weeks_in, slot_in, profile_in, profiles_in, season_in, month_tables, date_tables}
 use Rattle.calendars.specs.Programmes.{used, date_of, month_fields, date_fields, date_lawful, week_lawful, season_fields}
-use Rattle.calendars.specs.Sound.{every, rising, from_midnight, profile_sound, month_sound, date_sound}
+use Rattle.std.specs.List.{list_all}
+use Rattle.calendars.specs.Sound.{rising, from_midnight, profile_sound, month_sound, date_sound}
 use Rattle.calendars.specs.Begun.{up_to_lem}
 use Rattle.calendars.specs.Checks.{first_append, or_else}
 
 none_parts : (x y : Option ℕ) → or_else x y ≡ None → (x ≡ None) × (y ≡ None)
 none_parts None y e = (refl, e)
-none_parts (Some k) y e = absurd (let z : ◌≡◌ {A = ℕ} 0 1 = cc in omega arith)
+none_parts (Some k) y e = cc
 
 append_none : (fs gs : List Field) → first_wrong (fs ++ gs) ≡ None → (first_wrong fs ≡ None) × (first_wrong gs ≡ None)
 append_none fs gs e = none_parts (first_wrong fs) (first_wrong gs) (sym (first_append fs gs) ∙ e)
 
 field_none : (lawful : Bool) (offset : ℕ) (rest : Option ℕ) → cond lawful rest (Some offset) ≡ None → (lawful ≡ true) × (rest ≡ None)
 field_none true offset rest e = (refl, e)
-field_none false offset rest e = absurd (let z : ◌≡◌ {A = ℕ} 0 1 = cc in omega arith)
+field_none false offset rest e = cc
 
 parts_from : (f : ℕ → List Field) (i n : ℕ) → first_wrong (parts f i n) ≡ None → (j k : ℕ) → i + j ≡ k → j < n → first_wrong (f k) ≡ None
 unfolding parts
@@ -35,26 +36,25 @@ parts_from f i (suc n) e (suc j) k at h = parts_from f (i + 1) n (append_none (f
 pub parts_none : (f : ℕ → List Field) (n : ℕ) → first_wrong (parts f 0 n) ≡ None → (k : ℕ) → k < n → first_wrong (f k) ≡ None
 parts_none f n e k h = parts_from f 0 n e k k (omega arith) h
 
-every_from : {X : Type 0} (test : X → Bool) (at : ℕ → X) (a n : ℕ) → ((k : ℕ) → a ≤ k → k < a + n → test (at k) ≡ true) → every test (map at (range_with_len a n)) ≡ true
-unfolding every
+every_from : {X : Type 0} (test : X → Bool) (at : ℕ → X) (a n : ℕ) → ((k : ℕ) → a ≤ k → k < a + n → test (at k) ≡ true) → list_all test (map at (range_with_len a n)) ≡ true
 every_from test at a zero h = refl
 every_from test at a (suc n) h = and_from _ _ (h a (omega arith) (omega arith)) (every_from test at (a + 1) n (λ k from to. h k (omega arith) (omega arith)))
 
-every_row : {X : Type 0} (test : X → Bool) (at : ℕ → X) (n : ℕ) → ((k : ℕ) → k < n → test (at k) ≡ true) → every test (row at n) ≡ true
+every_row : {X : Type 0} (test : X → Bool) (at : ℕ → X) (n : ℕ) → ((k : ℕ) → k < n → test (at k) ≡ true) → list_all test (row at n) ≡ true
 every_row test at n h = every_from test at 0 n (λ k from to. h k (omega arith))
 
 choices_sound : (bytes : List ℕ) (n first count : ℕ) → first_wrong (parts (choice bytes n first) 0 count) ≡ None → (k : ℕ) → k < count → up_to n (byte_at bytes (first + k)) ≡ true
 unfolding choice
 choices_sound bytes n first count e k h = (field_none _ _ _ (parts_none (choice bytes n first) count e k h)).0
 
-bytes_sound : (bytes : List ℕ) (n first count : ℕ) → first_wrong (parts (choice bytes n first) 0 count) ≡ None → every (up_to n) (bytes_in bytes count first) ≡ true
+bytes_sound : (bytes : List ℕ) (n first count : ℕ) → first_wrong (parts (choice bytes n first) 0 count) ≡ None → list_all (up_to n) (bytes_in bytes count first) ≡ true
 unfolding bytes_in
 bytes_sound bytes n first count e = every_row (up_to n) _ count (choices_sound bytes n first count e)
 
-weeks_sound : (bytes : List ℕ) (n first weeks : ℕ) → first_wrong (parts (choice bytes n first) 0 (7 * weeks)) ≡ None → every (every (up_to n)) (weeks_in bytes weeks first) ≡ true
+weeks_sound : (bytes : List ℕ) (n first weeks : ℕ) → first_wrong (parts (choice bytes n first) 0 (7 * weeks)) ≡ None → list_all (list_all (up_to n)) (weeks_in bytes weeks first) ≡ true
 unfolding weeks_in bytes_in
 weeks_sound bytes n first weeks e =
-    every_row (every (up_to n)) _ weeks (λ k h. every_row (up_to n) _ 7 (λ j g.
+    every_row (list_all (up_to n)) _ weeks (λ k h. every_row (up_to n) _ 7 (λ j g.
     let at : first + (7 * k + j) ≡ first + 7 * k + j = omega arith in
     rw at at (choices_sound bytes n first (7 * weeks) e (7 * k + j) (omega arith))))
 
@@ -114,7 +114,7 @@ module _ (bytes : List ℕ) (labels n base : ℕ) (e : first_wrong (day_fields b
   unfolding slot_in
   slots_rise = rising_row _ _ (byte_at bytes base) slot_start
 
-  slot_periods : every (λ slot. up_to 8 slot.period) (row (λ k. slot_in bytes (base + 1 + 3 * k)) (byte_at bytes base)) ≡ true
+  slot_periods : list_all (λ slot. up_to 8 slot.period) (row (λ k. slot_in bytes (base + 1 + 3 * k)) (byte_at bytes base)) ≡ true
   unfolding slot_in
   slot_periods = every_row _ _ (byte_at bytes base) slot_period
 
@@ -132,10 +132,10 @@ module _ (bytes : List ℕ) (labels n base : ℕ) (e : first_wrong (day_fields b
   profile_sound_lem =
       let begins : from_midnight (used (profile_in bytes n base)) ≡ true = rw used_are (from_midnight_lem (byte_at bytes base) count_bounds.0) in
       let rises : rising (λ slot. slot.start) (used (profile_in bytes n base)) ≡ true = rw used_are slots_rise in
-      let periods : every (λ slot. up_to 8 slot.period) (used (profile_in bytes n base)) ≡ true = rw used_are slot_periods in
+      let periods : list_all (λ slot. up_to 8 slot.period) (used (profile_in bytes n base)) ≡ true = rw used_are slot_periods in
       and_from _ _ day_parts.0 (and_from _ _ begins (and_from _ _ rises periods))
 
-profiles_sound : (bytes : List ℕ) (labels n first days : ℕ) → first_wrong (parts (day_at bytes labels n first) 0 days) ≡ None → every profile_sound (profiles_in bytes n days first) ≡ true
+profiles_sound : (bytes : List ℕ) (labels n first days : ℕ) → first_wrong (parts (day_at bytes labels n first) 0 days) ≡ None → list_all profile_sound (profiles_in bytes n days first) ≡ true
 unfolding profiles_in day_at
 profiles_sound bytes labels n first days e =
     every_row profile_sound _ days (λ k h. profile_sound_lem bytes labels n (first + (1 + 3 * n) * k) (parts_none (day_at bytes labels n first) days e k h))
@@ -187,7 +187,7 @@ module _ (bytes : List ℕ) (count : byte_at bytes 5 ≤ 12) (e : first_wrong (p
   seasons_are : take (byte_at bytes 5) (row (λ k. season_in bytes (6 + 3 * k)) 12) ≡ row (λ k. season_in bytes (6 + 3 * k)) (byte_at bytes 5)
   seasons_are = take-map-range_with_len (λ k. season_in bytes (6 + 3 * k)) 0 12 (byte_at bytes 5) count
 
-  pub seasons_sound : every (λ season. up_to 8 season.week) (take (byte_at bytes 5) (row (λ k. season_in bytes (6 + 3 * k)) 12)) ≡ true
+  pub seasons_sound : list_all (λ season. up_to 8 season.week) (take (byte_at bytes 5) (row (λ k. season_in bytes (6 + 3 * k)) 12)) ≡ true
   unfolding season_in
   seasons_sound = rw seasons_are (every_row _ _ (byte_at bytes 5) season_week)
 

@@ -1,5 +1,5 @@
 -- The laws of orders and calendars.
-use Rattle.std.specs.Prelude.{◌≡◌, ℕ, suc, ◌+◌, ◌-◌, ◌*◌, ◌<◌, ◌≤◌, max, true, List, ◌∷◌, ◌++◌, length, get_or, take, replicate, codes, Decides, slice_index_or}
+use Rattle.std.specs.Prelude.{◌≡◌, ℕ, suc, ◌+◌, ◌-◌, ◌*◌, ◌<◌, ◌≤◌, max, true, List, ◌∷◌, ◌++◌, length, slice_index_or, take, replicate, codes, Decides}
 use Rattle.std.specs.List.{AllByRecursion}
 use Rattle.legal_time.specs.Refusals.{Reply}
 use Rattle.legal_time.specs.declared.Moment.{Moment}
@@ -25,7 +25,7 @@ pub record OverlappingOrders : Type 0 where
 
 -- Of orders that share no stamp, the one that holds a moment's stamp tells its period. Where none does, the map tells it.
 pub record ToldByOneOrder : Type 0 where
-  pub by_order : (os : List Order) (plan : Plan) (m : Moment) (i : ℕ) (d : Order) → Apart os → i < length os → Holds (slice_index_or os i d) m.stamp → laid os plan m ≡ (get_or os i d).period
+  pub by_order : (os : List Order) (plan : Plan) (m : Moment) (i : ℕ) (d : Order) → Apart os → i < length os → Holds (slice_index_or os i d) m.stamp → laid os plan m ≡ (slice_index_or os i d).period
   pub by_map : (os : List Order) (plan : Plan) (m : Moment) → AllByRecursion (λ o. Holds o m.stamp → ⊥) os → laid os plan m ≡ plan m
 
 -- what a calendar with these orders tells of a moment once a programme is read and holds: the map's period under the
@@ -47,7 +47,7 @@ pub record InTurn {X : Type 0} (start value : X → ℕ) (blank : X) (xs : List 
 
 -- the slots of a day start with the day and tell the period of each minute
 pub record SlotsFill (slots : List Slot) : Type 0 where
-  pub from_midnight : (get_or slots 0 blank_slot).start ≡ 0
+  pub from_midnight : (slice_index_or slots 0 blank_slot).start ≡ 0
   pub in_turn : InTurn (λ slot. slot.start) (λ slot. slot.period) blank_slot slots (period_of slots)
 
 -- In a programme that is read, the slots of each day type fill the day.
@@ -58,7 +58,7 @@ pub record SlotsFillTheDay : Type 0 where
 -- the seasons of a year tell the week profile of each date, and before the first of them the last one does
 pub record SeasonsFill (seasons : List Season) (week_on : ℕ → ℕ) : Type 0 where
   pub in_turn : InTurn date_of (λ season. season.week) blank_season seasons week_on
-  pub before : (date : ℕ) → date < date_of (slice_index_or seasons 0 blank_season) → week_on date ≡ (get_or seasons (length seasons - 1) blank_season).week
+  pub before : (date : ℕ) → date < date_of (slice_index_or seasons 0 blank_season) → week_on date ≡ (slice_index_or seasons (length seasons - 1) blank_season).week
 
 -- In a date programme that is read, the seasons fill the year.
 abbrev pub SeasonsFillTheYear : Type 0

@@ -33,7 +33,7 @@ profiles_in bytes n days first = row (λ k. profile_in bytes n (first + (1 + 3 *
 
 -- a season: its month, its day and its week
 unfoldable pub season_in : List ℕ → ℕ → Season
-season_in bytes at = record { month = byte_at bytes at; day = byte_at bytes (at + 1); week = byte_at bytes (at + 2) }
+season_in bytes at = record { start = record { month = byte_at bytes at; day = byte_at bytes (at + 1) }; week = byte_at bytes (at + 2) }
 
 -- the 166 bytes of a month programme
 unfoldable pub month_tables : List ℕ → MonthTables

@@ -13,4 +13,4 @@ pub mod Checks
 pub mod Readings
 pub mod Laid
 pub mod Compatible
-pub mod ProgrammeCalendarCalendarLemmas
+pub mod Planned

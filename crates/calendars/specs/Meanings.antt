@@ -1,6 +1,7 @@
 -- What a calendar means, and what its calls make of it.
-use Rattle.std.specs.Prelude.{ℕ, ◌≤◌, Bool, true, false, Some, None, Option}
-use Rattle.legal_time.specs.Refusals.{Reply, gives, refuses}
+use Rattle.std.specs.Prelude.{ℕ, ◌≤◌, Bool, true, false, Some, None, Option, Ok, Err, Result}
+use Rattle.legal_time.specs.Refusals.{Reply, gives, refuses, number_of}
+use Rattle.legal_time.specs.declared.Cause.{Cause}
 use Rattle.legal_time.specs.declared.Moment.{Moment}
 
 -- a map gives every moment a period
@@ -39,6 +40,11 @@ carried f (faults number place) = faults number place
 abbrev pub LawfulVerdict : Verdict Plan → Type 0
 LawfulVerdict (reads plan) = Lawful plan
 LawfulVerdict (faults number place) = Unit {0}
+
+-- the number of the question that was answered no, if there is one
+abbrev pub no_of : Result (Unit {0}) Cause → Option ℕ
+no_of (Ok u) = None
+no_of (Err cause) = Some (number_of cause)
 
 -- what a call answers whose first question with a no has this number, and which names no place
 abbrev pub asked : Option ℕ → Reply (Unit {0})

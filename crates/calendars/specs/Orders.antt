@@ -1,5 +1,6 @@
 -- Mobile orders: for a while another period than the map's holds.
-use Rattle.std.specs.Prelude.{◌≡◌, ℕ, ◌+◌, ◌<◌, ◌≤◌, Bool, true, false, cond, not, ◌&&◌, ◌||◌, List, [], ◌∷◌, ◌++◌, length, Some, None, filter, Option, nat_le, nat_lt, slice_index_or}
+use Rattle.std.specs.Prelude.{◌≡◌, ℕ, ◌+◌, ◌<◌, ◌≤◌, Bool, true, cond, not, ◌&&◌, List, [], ◌∷◌, ◌++◌, length, Some, None, find, filter, Option, option_map, nat_le, nat_lt, slice_index_or}
+use Rattle.std.specs.List.{list_any}
 use Rattle.calendars.specs.Meanings.{Plan}
 use Rattle.calendars.specs.declared.orders.Order.{Order}
 
@@ -17,8 +18,7 @@ laid (o ∷ os) plan m = cond (holds o m.stamp) o.period (laid os plan m)
 
 -- the period of the order that holds the stamp
 abbrev pub ruling : List Order → ℕ → Option ℕ
-ruling [] s = None
-ruling (o ∷ os) s = cond (holds o s) (Some o.period) (ruling os s)
+ruling os s = option_map (λ o. o.period) (find (λ o. holds o s) os)
 
 -- what every order keeps
 pub record IsOrder (o : Order) : Type 0 where
@@ -44,8 +44,7 @@ abbrev pub overlap : Order → Order → Bool
 overlap o p = nat_lt o.start (p.start + p.length) && nat_lt p.start (o.start + o.length)
 
 abbrev pub overlaps : Order → List Order → Bool
-overlaps o [] = false
-overlaps o (p ∷ ps) = overlap o p || overlaps o ps
+overlaps o os = list_any (overlap o) os
 
 -- orders that can be held together: each is shaped, and none overlaps another
 abbrev pub compatible : List Order → Bool
@@ -58,6 +57,10 @@ unended clock o = nat_lt clock (o.start + o.length)
 
 abbrev pub remaining : ℕ → List Order → List Order
 remaining clock os = filter (unended clock) os
+
+-- the first of the two questions that look at the order and the clock alone
+abbrev pub form_no : ℕ → Order → Option ℕ
+form_no clock o = cond (not (shaped o)) (Some 10) (cond (not (timely clock o)) (Some 11) None)
 
 -- the first question that is answered no, by its number
 unfoldable pub order_no : ℕ → List Order → ℕ → Order → Option ℕ

@@ -1,5 +1,5 @@
 -- What programmes mean: the period at each moment.
-use Rattle.std.specs.Prelude.{ℕ, ◌+◌, ◌-◌, ◌*◌, Bool, cond, ◌&&◌, ◌||◌, leb, List, [], ◌∷◌, ◌++◌, length, get_or, take, Some, None, codes, Option, ◌==◌, nat_le, nat_lt, slice_index, slice_index_or}
+use Rattle.std.specs.Prelude.{ℕ, ◌+◌, ◌-◌, ◌*◌, Bool, cond, ◌&&◌, ◌||◌, nat_le, List, [], ◌∷◌, ◌++◌, length, slice_index_or, take, fold, Some, None, codes, Option, ◌==◌, nat_lt, slice_index}
 use Rattle.legal_time.specs.Days.{month_length}
 use Rattle.calendars.specs.Fields.{Field, field, first_wrong, parts, passed, byte_at, wide_at, up_to, marked, choice, day_at, label_fields}
 use Rattle.calendars.specs.Layouts.{month_tables, date_tables}
@@ -12,15 +12,14 @@ use Rattle.calendars.specs.declared.tables.MonthTables.{MonthTables}
 
 -- the value of the last that has begun, or another where none has
 unfoldable pub last_begun : {X : Type 0} → (X → Bool) → (X → ℕ) → ℕ → List X → ℕ
-last_begun begun value other [] = other
-last_begun begun value other (x ∷ xs) = last_begun begun value (cond (begun x) (value x) other) xs
+last_begun begun value other xs = fold (λ told x. cond (begun x) (value x) told) other xs
 
 -- what a place past the end reads as
 abbrev pub blank_slot : Slot
 blank_slot = record { start = 0; period = 0 }
 
 abbrev pub blank_season : Season
-blank_season = record { month = 0; day = 0; week = 0 }
+blank_season = record { start = record { month = 0; day = 0 }; week = 0 }
 
 -- the slots that a day type uses
 abbrev pub used : {n : ℕ} → DayProfile n → List Slot
@@ -28,7 +27,7 @@ used profile = take profile.count profile.slots
 
 -- the last slot that has started gives the period
 unfoldable pub period_of : List Slot → ℕ → ℕ
-period_of slots minute = last_begun (λ slot. leb slot.start minute) (λ slot. slot.period) 1 slots
+period_of slots minute = last_begun (λ slot. nat_le slot.start minute) (λ slot. slot.period) 1 slots
 
 -- the day type numbered k
 abbrev pub numbered : {n : ℕ} → List (DayProfile n) → ℕ → DayProfile n
@@ -48,17 +47,17 @@ abbrev pub date_number : ℕ → ℕ → ℕ
 date_number month day = 256 * month + day
 
 abbrev pub date_of : Season → ℕ
-date_of season = date_number season.month season.day
+date_of season = date_number season.start.month season.start.day
 
 -- the week profile of the last of these seasons that has begun, or another where none has
 unfoldable pub week_among : List Season → ℕ → ℕ → ℕ
 week_among seasons other date =
-    last_begun (λ season. leb (date_of season) date) (λ season. season.week) other seasons
+    last_begun (λ season. nat_le (date_of season) date) (λ season. season.week) other seasons
 
 -- before the first season of the year the last one holds
 unfoldable pub week_of : List Season → ℕ → ℕ → ℕ
 week_of seasons count date =
-    week_among (take count seasons) (get_or seasons (count - 1) blank_season).week date
+    week_among (take count seasons) (slice_index_or seasons (count - 1) blank_season).week date
 
 unfoldable pub date_plan : DateTables → Plan
 date_plan t m =

@@ -1,106 +1,79 @@
 // The orders that a layer holds.
-ghost use Rattle.std.specs.Prelude.{◌≡◌, ◌≤◌, true, false, [], take, is_ok};
-ghost use Rattle.legal_time.specs.Refusals.{reply_of};
-ghost use Rattle.calendars.specs.Meanings.{asked};
+ghost use Rattle.std.specs.Prelude.{◌≡◌, true, false, [], length, is_ok};
+ghost use Rattle.calendars.specs.Meanings.{no_of};
 ghost use Rattle.calendars.specs.Orders.{compatible, overlaps, remaining, ruling, order_no, ordered};
 
 use crate::orders::Order;
-use legal_time::{Cause, Refusal};
+use arrayvec::ArrayVec;
+use legal_time::Cause;
 
 // How many unended orders there may be.
 const LIMIT: usize = 8;
 
-// Orders, oldest first: the first `count` of the array. What stands behind them says nothing.
-#[derive(Clone, Copy)]
+// Orders that can be held together, oldest first.
+#[derive(Drop)]
 pub(crate) struct HeldOrders {
-    count: usize,
-    orders: [Order; LIMIT],
-    ghost fits: { count ≤ 8 },
-    ghost sound: { compatible (take count orders) ≡ true },
+    orders: ArrayVec<Order, LIMIT>,
+    ghost sound: { compatible orders.items ≡ true },
 }
 
 impl HeldOrders {
     pub(crate) fn new() -> HeldOrders
-        ensures { take result.count result.orders ≡ [] }
+        ensures { result.orders.items ≡ [] }
     {
-        let unused = Order {
-            start: 0,
-            length: 0,
-            period: 0,
-        };
         HeldOrders {
-            count: 0,
-            orders: [unused; LIMIT],
+            orders: ArrayVec::new(),
         }
-    }
-
-    fn as_slice(&self) -> &[Order]
-        ensures { result.now ≡ take self.now.count self.now.orders }
-    {
-        &self.orders[0..self.count]
     }
 
     // The period of the order that holds the stamp.
+    #[tactic(auto, using(crate::proofs::HeldTogether::period_within))]
     pub(crate) fn period_at(&self, stamp: u32) -> Option<u8>
-        ensures { result ≡ ruling (take self.now.count self.now.orders) stamp }
+        ensures { result ≡ ruling self.now.orders.items stamp }
     {
-        for order in self.as_slice() {
-            if order.holds(stamp) {
-                return Some(order.period as u8);
-            }
-        }
-        None
+        let order = self.orders.iter().find(|order| order.holds(stamp))?;
+        Some(order.period as u8)
     }
 
     fn overlapped_by(&self, new: &Order) -> bool
-        ensures { result ≡ overlaps new.now (take self.now.count self.now.orders) }
+        ensures { result ≡ overlaps new.now self.now.orders.items }
     {
-        for order in self.as_slice() {
-            if new.overlaps(order) {
-                return true;
-            }
-        }
-        false
+        self.orders.iter().any(|order| new.overlaps(order))
     }
 
-    // The same orders without the ended ones.
-    fn unended(&self, clock: u32) -> HeldOrders
-        ensures { take result.count result.orders ≡ remaining clock (take self.now.count self.now.orders) }
+    // How many have not ended at the clock.
+    fn count_unended(&self, clock: u32) -> usize
+        ensures { result ≡ length (remaining clock self.now.orders.items) }
     {
-        let mut orders = self.orders;
-        let mut count = 0;
-        for i in 0..self.count {
-            let order = self.orders[i];
-            if order.is_unended(clock) {
-                orders[count] = order;
-                count += 1;
-            }
-        }
-        HeldOrders { count, orders }
+        self.orders
+            .iter()
+            .filter(|order| order.is_unended(clock))
+            .count()
     }
 
-    // Takes an order at this clock, unless one of the four questions is answered no.
-    pub(crate) fn admit(&mut self, clock: u32, order: Order) -> Result<(), Refusal>
-        ensures answer { reply_of result ≡ asked (order_no 8 (take self.old.count self.old.orders) clock order) }
-        ensures orders { take self.new.count self.new.orders ≡ ordered 8 (take self.old.count self.old.orders) clock order }
+    // Drops those that have ended at the clock.
+    fn drop_ended(&mut self, clock: u32)
+        ensures { self.new.orders.items ≡ remaining clock self.old.orders.items }
+    {
+        self.orders.retain(|order| order.is_unended(clock));
+    }
+
+    // Takes an order at the clock, unless one of the four questions is answered no.
+    #[tactic(auto, using(crate::specs::Compatible::compatible_more), unfolding(crate::specs::Orders::order_no, crate::specs::Orders::ordered))]
+    pub(crate) fn admit(&mut self, clock: u32, order: Order) -> Result<(), Cause>
+        ensures answer { no_of result ≡ order_no 8 self.old.orders.items clock order }
+        ensures orders { self.new.orders.items ≡ ordered 8 self.old.orders.items clock order }
         ensures refused { is_ok result ≡ false → self.new ≡ self.old }
     {
-        if !order.is_shaped() {
-            return Err(Refusal::plain(Cause::OrderShape));
-        }
-        if !order.is_timely(clock) {
-            return Err(Refusal::plain(Cause::OrderTime));
-        }
+        order.check(clock)?;
         if self.overlapped_by(&order) {
-            return Err(Refusal::plain(Cause::OrderOverlap));
+            return Err(Cause::OrderOverlap);
         }
-        let mut kept = self.unended(clock);
-        if kept.count >= LIMIT {
-            return Err(Refusal::plain(Cause::OrderLimit));
+        if self.count_unended(clock) >= LIMIT {
+            return Err(Cause::OrderLimit);
         }
-        kept.orders[kept.count] = order;
-        kept.count += 1;
-        *self = kept;
+        self.drop_ended(clock);
+        self.orders.push(order);
         Ok(())
     }
 }

@@ -18,11 +18,13 @@ pub fn overlapping_orders()
 {}
 
 // A moment's period is told by the one order that holds its stamp, else by the map.
+#[tactic(auto, using(crate::specs::Laid::laid_by_order, crate::specs::Laid::laid_by_map))]
 pub fn told_by_one_order()
     ensures { ToldByOneOrder }
 {}
 
 // In a programme that is read, every minute of every day type is in exactly one slot, whose period is told.
+#[tactic(auto, using(crate::proofs::InTurn::slots_fill_the_day))]
 pub fn slots_fill_the_day()
     ensures { SlotsFillTheDay }
 {}

@@ -1,5 +1,5 @@
 // Orders over any calendar.
-ghost use Rattle.std.specs.Prelude.{◌≡◌, [], take};
+ghost use Rattle.std.specs.Prelude.{◌≡◌, []};
 ghost use Rattle.calendars.specs.Meanings.{carried};
 ghost use Rattle.calendars.specs.Orders.{laid};
 ghost use Rattle.calendars.specs.Laid.{laid_lawful, carried_lawful};
@@ -21,7 +21,7 @@ pub struct OrderLayer<C> {
 impl<C> OrderLayer<C> {
     pub fn new(below: C) -> OrderLayer<C>
         ensures below { result.below ≡ below }
-        ensures orders { take result.held.count result.held.orders ≡ [] }
+        ensures orders { result.held.orders.items ≡ [] }
     {
         OrderLayer {
             below,
@@ -37,7 +37,7 @@ impl<C: Calendar> Calendar for OrderLayer<C> {
 
     ghost reading = { λ c bytes. carried (laid (C.Calendar.orders c.below)) (C.Calendar.reading c.below bytes) };
 
-    ghost orders = { λ c. take c.held.count c.held.orders };
+    ghost orders = { λ c. c.held.orders.items };
 
     ghost limit = { λ _. 8 };
 
@@ -52,6 +52,7 @@ impl<C: Calendar> Calendar for OrderLayer<C> {
     ghost apart = { λ c. all_apart _ c.held.sound };
 
     fn period_at(&self, moment: Moment) -> u8 {
+        // a `match`, since in generic code a proof does not know what a closure for the second case answers
         match self.held.period_at(moment.stamp()) {
             Some(period) => period,
             None => self.below.period_at(moment),
@@ -67,6 +68,7 @@ impl<C: Calendar> Calendar for OrderLayer<C> {
     }
 
     fn order(&mut self, clock: u32, order: Order) -> Result<(), Refusal> {
-        self.held.admit(clock, order)
+        self.held.admit(clock, order)?;
+        Ok(())
     }
 }

@@ -12,7 +12,6 @@ mod fields;
 mod held;
 pub mod laws;
 mod layer;
-mod lookups;
 mod months;
 mod orders;
 mod profiles;

@@ -2,7 +2,7 @@
 ghost use Rattle.std.specs.Prelude.{◌≡◌, ℕ, List, []};
 ghost use Rattle.legal_time.specs.Refusals.{reply_of, given};
 ghost use Rattle.calendars.specs.Meanings.{Plan, Lawful, LawfulVerdict, Verdict, alone, planned, unprogrammed};
-ghost use Rattle.calendars.specs.ProgrammeCalendarCalendarLemmas.{planned_lawful};
+ghost use Rattle.calendars.specs.Planned.{planned_lawful};
 ghost use Rattle.std.proofs.Common.{rules};
 
 use crate::calendar::Calendar;
@@ -69,6 +69,7 @@ impl<P: Programme> Calendar for ProgrammeCalendar<P> {
 
     ghost apart = { Prim.search rules };
 
+    #[tactic(auto, unfolding(crate::specs::Meanings::unprogrammed, crate::specs::Orders::laid))]
     fn period_at(&self, moment: Moment) -> u8 {
         match &self.current {
             Some(programme) => programme.period_at(moment),

@@ -1,14 +1,14 @@
 // The questions that an ordering asks of an order.
 ghost use Rattle.std.specs.Prelude.{◌≡◌, ◌+◌, []};
 ghost use Rattle.legal_time.specs.Refusals.{number_of, refuses};
-ghost use Rattle.calendars.specs.Meanings.{asked};
-ghost use Rattle.calendars.specs.Orders.{holds, shaped, timely, overlap, unended, order_no, ordered};
+ghost use Rattle.calendars.specs.Meanings.{asked, no_of};
+ghost use Rattle.calendars.specs.Orders.{holds, shaped, timely, overlap, unended, form_no, order_no, ordered};
 
 use crate::orders::Order;
-use legal_time::{Cause, Refusal};
+use legal_time::{Cause, LAST_STAMP, Refusal};
 
-// The stamp that an order's end may not pass: the one after the last.
-const END_OF_TIME: u64 = 52_595_940;
+// The stamp that an order's end may not pass.
+const END_OF_TIME: u64 = LAST_STAMP as u64 + 1;
 
 impl Order {
     // The stamp after the last one that the order holds. A request may hold any numbers, so their sum is wider than they.
@@ -47,18 +47,26 @@ impl Order {
     {
         u64::from(clock) < self.end()
     }
+
+    // The questions that look at the order and the clock alone: its shape, then its time.
+    pub(crate) fn check(&self, clock: u32) -> Result<(), Cause>
+        ensures { no_of result ≡ form_no clock self.now }
+    {
+        if !self.is_shaped() {
+            return Err(Cause::OrderShape);
+        }
+        if !self.is_timely(clock) {
+            return Err(Cause::OrderTime);
+        }
+        Ok(())
+    }
 }
 
 // The refusal of a calendar that takes no orders, and has none afterwards.
+#[tactic(auto, unfolding(crate::specs::Orders::order_no, crate::specs::Orders::ordered))]
 pub fn refuse_order(clock: u32, order: Order) -> Refusal
     ensures answer { refuses (number_of result.cause) result.side result.place ≡ asked (order_no 0 [] clock order) }
     ensures orders { ordered 0 [] clock order ≡ [] }
 {
-    if !order.is_shaped() {
-        return Refusal::plain(Cause::OrderShape);
-    }
-    if !order.is_timely(clock) {
-        return Refusal::plain(Cause::OrderTime);
-    }
-    Refusal::plain(Cause::OrderLimit)
+    order.check(clock).err().unwrap_or(Cause::OrderLimit).into()
 }

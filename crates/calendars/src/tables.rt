@@ -1,5 +1,8 @@
 // The tables of a programme, as its bytes give them.
-use crate::profiles::{DayProfile, Season};
+ghost use Rattle.std.specs.Prelude.{◌≡◌, ◌≤◌};
+ghost use Rattle.calendars.specs.Programmes.{date_number, week_of};
+
+use crate::profiles::{DayProfile, MonthDay, Season};
 
 // Where the parts of a month programme stand in its bytes.
 pub(crate) mod month {
@@ -12,6 +15,9 @@ pub(crate) mod month {
     pub(crate) const DAYS: usize = 21;
 
     pub(crate) const PROFILES: usize = 49;
+
+    // The bytes of a day type: its count and ten slots.
+    pub(crate) const PROFILE: usize = 31;
 
     pub(crate) const LABELS: usize = 142;
 }
@@ -27,6 +33,9 @@ pub(crate) mod date {
     pub(crate) const DAYS: usize = 42;
 
     pub(crate) const PROFILES: usize = 98;
+
+    // The bytes of a day type: its count and eleven slots.
+    pub(crate) const PROFILE: usize = 34;
 
     pub(crate) const LABELS: usize = 336;
 }
@@ -47,11 +56,32 @@ pub struct MonthTables {
     pub profiles: [DayProfile<10>; 3],
 }
 
-// A date programme has `count` seasons, the day types of each week profile from Monday on, and the day types.
+// A date programme has `count` seasons, the day types of each week profile from Monday on, and the day types. It is copied
+// whole, so the seasons lie in a plain array.
 #[derive(Clone, Copy)]
 pub struct DateTables {
     pub count: u8,
     pub seasons: [Season; 12],
     pub days: [[u8; 7]; 8],
     pub profiles: [DayProfile<11>; 7],
+}
+
+impl DateTables {
+    // The week profile of the last season that has begun on this date. Before the first one of the year the last holds.
+    #[tactic(auto, unfolding(crate::specs::Programmes::week_of, crate::specs::Programmes::week_among, crate::specs::Programmes::last_begun))]
+    pub(crate) fn week_on(&self, date: MonthDay) -> u8
+        requires { (1 ≤ self.now.count) × (self.now.count ≤ 12) }
+        ensures { result ≡ week_of self.now.seasons self.now.count (date_number date.month date.day) }
+    {
+        let seasons = &self.seasons[..usize::from(self.count)];
+        let last = seasons[seasons.len() - 1].week;
+        seasons.iter().fold(
+            last,
+            |week, season| if season.has_begun(date) {
+                season.week
+            } else {
+                week
+            },
+        )
+    }
 }

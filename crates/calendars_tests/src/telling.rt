@@ -1,13 +1,13 @@
 // What calendars tell.
 use crate::programmes::{put, three_seasons, two_seasons};
 use calendars::{Calendar, DateCalendar, MonthCalendar};
-use legal_time::{Moment, Refusal, moment, stamp};
+use legal_time::{Label, Moment, Refusal, moment, stamp};
 use std::process::Abort;
 use std::test::Fail;
 
 // The moment of a local day number, minute of day and summer mark.
 fn label(day: u32, minute: u32, mark: u32) -> Result<Moment, Refusal> {
-    moment(stamp(day, minute, mark)?)
+    moment(stamp(Label { day, minute, mark })?)
 }
 
 // Rows of a label's three numbers and the period there.

@@ -4,7 +4,7 @@ use Rattle.std.specs.Char.{digit_value}
 use Rattle.std.specs.declared.alloc.Global.{Global}
 use Rattle.golimeruth.specs.declared.words.Slip.TheVariants.{UnknownCommand, WordMissing, WordTooMany, NotANumber, NumberTooLarge, UnknownCalendar, NotBytes}
 use Rattle.golimeruth.specs.declared.words.Unread.{Unread}
-use Rattle.golimeruth.specs.declared.words.Unread.TheVariants.{Slip as TheSlip, NoMemory}
+use Rattle.golimeruth.specs.declared.words.Unread.TheVariants.{Slip as TheSlip, Memory}
 
 -- the byte that two digits spell, the high one first; a digit is '0' to '9', 'A' to 'F' or 'a' to 'f'
 abbrev pub pair_of : ℕ → ℕ → Option ℕ
@@ -23,7 +23,7 @@ Spelled word bytes = ((word ≡ codes "-") × (bytes ≡ [])) ⊎ Paired word by
 -- what a word is read as; memory may run out
 abbrev pub SpellsBytes : List ℕ → Result (Vec ℕ Global) Unread → Type 0
 SpellsBytes word (Ok bytes) = Spelled word (vec_items bytes)
-SpellsBytes word (Err NoMemory) = Unit {0}
+SpellsBytes word (Err (Memory e)) = Unit {0}
 SpellsBytes word (Err (TheSlip NotBytes)) = (bytes : List ℕ) → Spelled word bytes → ⊥
 SpellsBytes word (Err (TheSlip UnknownCommand)) = ⊥
 SpellsBytes word (Err (TheSlip WordMissing)) = ⊥

@@ -32,8 +32,8 @@ PlanAnswer (reads plan) stamp r =
 -- each command is answered by its call
 abbrev pub Performed : Command → Result Answer Refusal → Type 0
 Performed (Time s) r = (q : Result Moment Refusal) × MomentAnswer s q × (r ≡ given TheMoment q)
-Performed (Stamp day minute mark) r = (q : Result ℕ Refusal) × StampAnswer day minute mark q × (r ≡ given TheStamp q)
-Performed (Check kind bytes) r =
-    (q : Result (Unit {0}) Refusal) × (reply_of q ≡ checked (reading_of kind (vec_items bytes))) × (r ≡ given (λ _. Lawful) q)
-Performed (ThePlan kind bytes stamp) r =
-    (q : Result ℕ Refusal) × PlanAnswer (reading_of kind (vec_items bytes)) stamp q × (r ≡ given Period q)
+Performed (Stamp label) r = (q : Result ℕ Refusal) × StampAnswer label.day label.minute label.mark q × (r ≡ given TheStamp q)
+Performed (Check offer) r =
+    (q : Result (Unit {0}) Refusal) × (reply_of q ≡ checked (reading_of offer.kind (vec_items offer.bytes))) × (r ≡ given (λ _. Lawful) q)
+Performed (ThePlan offer stamp) r =
+    (q : Result ℕ Refusal) × PlanAnswer (reading_of offer.kind (vec_items offer.bytes)) stamp q × (r ≡ given Period q)

@@ -5,10 +5,10 @@ mod answers;
 mod commands;
 mod words;
 
-use answers::perform;
+use answers::{Refused, perform};
 use anyhow::anyhow;
 use commands::parse;
-use std::alloc::{AllocError, Global};
+use std::alloc::Global;
 use std::env;
 use std::fs::File;
 use std::io::{BufRead, BufReader, BufWriter, Read, Write};
@@ -36,10 +36,8 @@ fn run(rt: &HostRuntime) -> anyhow::Result<()> {
             BufReader::new(rt.alloc(), rt.stdin())?,
         );
     };
-    match File::open(rt, path.as_str()) {
-        Ok(file) => replay(rt, path.as_str(), BufReader::new(rt.alloc(), file)?),
-        Err(error) => Err(anyhow!(format!(in rt.alloc(); "{path}: {error}")?)),
-    }
+    let file = File::open(rt, path.as_str()).map_err(|error| anyhow!("{path}: {error}"))?;
+    replay(rt, path.as_str(), BufReader::new(rt.alloc(), file)?)
 }
 
 fn replay<R: Read + Drop>(
@@ -52,33 +50,27 @@ fn replay<R: Read + Drop>(
     // an input need not end, so the lines are counted
     for number in 1..u64::MAX {
         line.clear();
-        match script.read_until(b'\n', &mut line) {
-            Ok(0) => break,
-            Ok(_) => answer(rt.alloc(), number, line.as_slice(), &mut out)?,
-            Err(error) => return Err(anyhow!(format!(in rt.alloc(); "{name}: {error}")?)),
+        let length = script
+            .read_until(b'\n', &mut line)
+            .map_err(|error| anyhow!("{name}: {error}"))?;
+        if length == 0 {
+            break;
         }
+        answer(rt.alloc(), number, line.as_slice(), &mut out)?;
     }
     out.flush()?;
     Ok(())
 }
 
 fn answer<W: Write>(heap: Global, number: u64, line: &[u8], out: &mut W) -> anyhow::Result<()> {
-    let line = without_end(line);
-    match parse(heap, line) {
+    match parse(heap, without_end(line)) {
         Ok(None) => {}
         Ok(Some(command)) => match perform(command) {
             Ok(answer) => writeln!(out, "{answer}")?,
-            Err(refusal) => {
-                let cause = refusal.cause.number();
-                let side = refusal.side;
-                let place = refusal.place;
-                writeln!(out, "refused {cause} side {side} place {place}")?;
-            }
+            Err(refusal) => writeln!(out, "{}", Refused(refusal))?,
         },
-        Err(Unread::Slip(slip)) => {
-            writeln!(out, "bad line {number}: {slip}")?;
-        }
-        Err(Unread::NoMemory) => return Err(AllocError.into()),
+        Err(Unread::Slip(slip)) => writeln!(out, "bad line {number}: {slip}")?,
+        Err(Unread::Memory(error)) => return Err(error.into()),
     }
     Ok(())
 }
@@ -86,8 +78,7 @@ fn answer<W: Write>(heap: Global, number: u64, line: &[u8], out: &mut W) -> anyh
 // The line without the end that the script's editor gave it.
 fn without_end(line: &[u8]) -> &[u8] {
     match line {
-        [text @ .., b'\r', b'\n'] => text,
-        [text @ .., b'\n'] => text,
+        [text @ .., b'\r', b'\n'] | [text @ .., b'\n'] => text,
         _ => line,
     }
 }

@@ -1,63 +1,63 @@
 // The words of a line.
-ghost use Rattle.std.specs.Prelude.{◌≡◌, ◌≤◌, length};
+ghost use Rattle.std.specs.Prelude.{length};
+ghost use Rattle.std.specs.Iterator.{at_most};
 ghost use Rattle.golimeruth.specs.Decimal.{Spells};
-ghost use Rattle.golimeruth.specs.Hexadecimal.{pair_of, SpellsBytes};
-ghost use Rattle.golimeruth.specs.declared.words.Unread.TheVariants.{NoMemory};
+ghost use Rattle.golimeruth.specs.Hexadecimal.{SpellsBytes};
 
-use std::alloc::{AllocFailed, Global};
-use std::fmt;
+use hex::FromHexError;
+use std::alloc::{AllocError, Global};
+use thiserror::Error;
 
 // Why a line is no command.
-#[derive(Clone, Copy, PartialEq, Eq, Debug)]
+#[derive(Clone, Copy, PartialEq, Eq, Debug, Error)]
 pub(crate) enum Slip {
+    #[error("unknown command")]
     UnknownCommand,
+    #[error("word missing")]
     WordMissing,
+    #[error("word too many")]
     WordTooMany,
+    #[error("not a number")]
     NotANumber,
+    #[error("number too large")]
     NumberTooLarge,
+    #[error("unknown calendar")]
     UnknownCalendar,
+    #[error("not bytes")]
     NotBytes,
 }
 
-impl fmt::Display for Slip {
-    fn fmt<W: fmt::Write>(&self, f: &mut fmt::Formatter<W>) -> fmt::Result {
-        f.write_str(match *self {
-            Slip::UnknownCommand => "unknown command",
-            Slip::WordMissing => "word missing",
-            Slip::WordTooMany => "word too many",
-            Slip::NotANumber => "not a number",
-            Slip::NumberTooLarge => "number too large",
-            Slip::UnknownCalendar => "unknown calendar",
-            Slip::NotBytes => "not bytes",
-        })
-    }
-}
-
 // Why a line gives no command: it is none, or memory ran out.
-#[derive(Drop)]
+#[derive(Debug, Drop, Error)]
 pub(crate) enum Unread {
-    Slip(Slip),
-    NoMemory,
+    #[error(transparent)]
+    Slip(#[from] Slip),
+    #[error(transparent)]
+    Memory(AllocError),
 }
 
-impl From<Slip> for Unread {
-    fn from(slip: Slip) -> Unread {
-        Unread::Slip(slip)
-    }
-}
-
-impl<T: Drop> From<AllocFailed<T>> for Unread {
-    ghost from_gives = { λ _ r. r ≡ NoMemory };
-
-    fn from(_refused: AllocFailed<T>) -> Unread {
-        Unread::NoMemory
-    }
-}
-
-// What is left of a line; words are separated by spaces.
+// What is left of a line: its words, which are separated by spaces.
 #[derive(Drop)]
 pub(crate) struct Words<'a> {
     rest: &'a [u8],
+}
+
+impl<'a> Iterator for Words<'a> {
+    type Item = &'a [u8];
+
+    ghost remaining = { λ words. at_most (length words.rest.now) };
+
+    fn next(&mut self) -> Option<&'a [u8]> {
+        let start = self.rest.iter().position(|byte| *byte != b' ')?;
+        let text = &self.rest[start..];
+        let end = text
+            .iter()
+            .position(|byte| *byte == b' ')
+            .unwrap_or(text.len());
+        let (word, rest) = text.split_at(end);
+        self.rest = rest;
+        Some(word)
+    }
 }
 
 impl<'a> Words<'a> {
@@ -65,18 +65,9 @@ impl<'a> Words<'a> {
         Words { rest: line }
     }
 
-    // The next word, or none at the end of the line.
-    pub(crate) fn next_word(&mut self) -> Option<&'a [u8]> {
-        let line = self.rest;
-        let (_, text) = line.split_at(spaces_before(line));
-        let (word, rest) = text.split_at(word_length(text));
-        self.rest = rest;
-        if word.is_empty() { None } else { Some(word) }
-    }
-
     // The next word, which the command wants.
     pub(crate) fn word(&mut self) -> Result<&'a [u8], Slip> {
-        self.next_word().ok_or(Slip::WordMissing)
+        self.next().ok_or(Slip::WordMissing)
     }
 
     pub(crate) fn number(&mut self) -> Result<u32, Slip> {
@@ -88,79 +79,36 @@ impl<'a> Words<'a> {
     }
 
     pub(crate) fn end(&mut self) -> Result<(), Slip> {
-        match self.next_word() {
+        match self.next() {
             Some(_) => Err(Slip::WordTooMany),
             None => Ok(()),
         }
     }
 }
 
-fn spaces_before(text: &[u8]) -> usize
-    ensures { result ≤ length text.now }
-{
-    for (i, byte) in text.iter().enumerate() {
-        if *byte != b' ' {
-            return i;
-        }
-    }
-    text.len()
-}
-
-fn word_length(text: &[u8]) -> usize
-    ensures { result ≤ length text.now }
-{
-    for (i, byte) in text.iter().enumerate() {
-        if *byte == b' ' {
-            return i;
-        }
-    }
-    text.len()
-}
-
-// Any number of this size is too large for a `u32`, however many digits follow.
-const TOO_LARGE: u64 = 4_294_967_296;
-
+// The number that a word spells. A sum that would pass a `u64` stays at its end, so that a later character is still seen
+// to be no digit.
 fn decimal(word: &[u8]) -> Result<u32, Slip>
     ensures { Spells word.now result }
 {
     let mut value = 0u64;
     for byte in word {
-        if *byte < b'0' || *byte > b'9' {
-            return Err(Slip::NotANumber);
-        }
-        value = (value * 10 + u64::from(*byte - b'0')).min(TOO_LARGE);
+        let digit = char::from(*byte).to_digit(10).ok_or(Slip::NotANumber)?;
+        value = value.saturating_mul(10).saturating_add(u64::from(digit));
     }
-    if value == TOO_LARGE {
-        return Err(Slip::NumberTooLarge);
-    }
-    Ok(value as u32)
-}
-
-// The byte that two hexadecimal digits spell, the high one first.
-fn pair(high: u8, low: u8) -> Option<u8>
-    ensures { result ≡ pair_of high low }
-{
-    let high = char::from(high).to_digit(16)?;
-    let low = char::from(low).to_digit(16)?;
-    Some((16 * high + low) as u8)
+    u32::try_from(value).map_err(|_| Slip::NumberTooLarge)
 }
 
 // The bytes that a word spells: a pair of digits for each, or a dash for none at all.
+#[tactic(auto, using(crate::proofs::Hexadecimal::spelled_as_read, crate::proofs::Hexadecimal::unread_spells_nothing))]
 fn hexadecimal(heap: Global, word: &[u8]) -> Result<Vec<u8>, Unread>
     ensures { SpellsBytes word.now result }
 {
-    let mut bytes = Vec::new(heap);
     if word == b"-".as_slice() {
-        return Ok(bytes);
+        return Ok(Vec::new(heap));
     }
-    if word.len() % 2 != 0 {
-        return Err(Unread::Slip(Slip::NotBytes));
-    }
-    for k in 0..word.len() / 2 {
-        let Some(byte) = pair(word[2 * k], word[2 * k + 1]) else {
-            return Err(Unread::Slip(Slip::NotBytes));
-        };
-        bytes.push(byte)?;
-    }
-    Ok(bytes)
+    hex::decode(heap, word).map_err(|error| match error {
+        FromHexError::OutOfMemory => Unread::Memory(AllocError),
+        _ => Unread::Slip(Slip::NotBytes),
+    })
 }

@@ -1,29 +1,15 @@
--- Summer time by the table's places, and within an hour and a year.
+-- Summer time by the change days, and within an hour and a year.
 use Rattle.std.proofs.Common.{◌≡◌, ℕ, ◌+◌, ◌*◌, ◌/◌, ◌%◌, ◌<◌, ◌≤◌, Bool, true, false, cond, ◌&&◌, ltb, leb, inl, inr, arith}
 use Rattle.std.proofs.lemmas.Bool.{cases_lt}
 use Rattle.std.proofs.lemmas.Bool.Decides.{nat_tests}
 use Rattle.legal_time.specs.Days.{leap_year, year_length, month_length, year_start, month_start, day_number, year_of, last_sunday}
-use Rattle.legal_time.specs.Summer.{change_day, summer_from, summer_until, summer_at, local_of, day_of, minute_of}
+use Rattle.legal_time.specs.Summer.{summer_from, summer_until, summer_at, local_of, day_of, minute_of}
 use Rattle.legal_time.proofs.Years.{year_is}
 
-spring_place : (k : ℕ) → change_day (2 * k) ≡ last_sunday (2000 + k) 3
-unfolding change_day
-spring_place k =
-    let half : 2 * k / 2 ≡ k = omega arith in
-    let even : 2 * k % 2 ≡ 0 = omega arith in
-    rw (half, even)
-
-autumn_place : (k : ℕ) → change_day (2 * k + 1) ≡ last_sunday (2000 + k) 10
-unfolding change_day
-autumn_place k =
-    let half : (2 * k + 1) / 2 ≡ k = omega arith in
-    let odd : (2 * k + 1) % 2 ≡ 1 = omega arith in
-    rw (half, odd)
-
 -- summer time lies between the two changes of the stamp's year
-pub summer_between : (s k spring autumn : ℕ) → 2000 + k ≡ year_of (s / 1440) → spring ≡ change_day (2 * k) → autumn ≡ change_day (2 * k + 1) → summer_at s ≡ (leb (spring * 1440 + 60) s && ltb s (autumn * 1440 + 60))
+pub summer_between : (s k spring autumn : ℕ) → 2000 + k ≡ year_of (s / 1440) → spring ≡ last_sunday (2000 + k) 3 → autumn ≡ last_sunday (2000 + k) 10 → summer_at s ≡ (leb (spring * 1440 + 60) s && ltb s (autumn * 1440 + 60))
 unfolding summer_at summer_from summer_until
-summer_between s k spring autumn year p q = simp (← year, p, q, spring_place, autumn_place)
+summer_between s k spring autumn year p q = simp (← year, p, q)
 
 -- summer time is over before the last hour, so local time never passes the last day
 summer_over : (s : ℕ) → 52595880 ≤ s → s ≤ 52595939 → summer_at s ≡ false

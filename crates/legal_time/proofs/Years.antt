@@ -1,14 +1,9 @@
 -- Years and months of a day number, from 2000 to 2099.
-use Rattle.std.proofs.Common.{◌≡◌, ℕ, zero, suc, ◌+◌, ◌-◌, ◌*◌, ◌/◌, ◌%◌, ◌<◌, ◌≤◌, Bool, true, false, cond, ◌&&◌, eqb, sym, refl, ap, ◌∙◌, inl, inr, arith}
+use Rattle.std.proofs.Common.{◌≡◌, ℕ, zero, suc, ◌+◌, ◌-◌, ◌*◌, ◌/◌, ◌<◌, ◌≤◌, Bool, true, false, cond, ◌&&◌, eqb, sym, refl, ap, ◌∙◌, inl, inr, arith}
 use Rattle.std.proofs.lemmas.Bool.{cases_eq}
 use Rattle.std.proofs.lemmas.Bool.Decides.{nat_tests, Decides-below_and, Decides-eqb}
 use Rattle.legal_time.specs.Days.{leap_year, year_length, month_length, year_start, month_start, day_number, last_started, year_of, day_of_year, month_of, day_of_month, Valid}
 use Rattle.legal_time.proofs.Started.{last_is, last_within, last_started_lem, last_next}
-
--- between 2000 and 2099 no full century is left out
-pub leap_is : (y : ℕ) → 2000 ≤ y → y ≤ 2099 → leap_year y ≡ eqb (y % 4) 0
-unfolding leap_year
-leap_is y from to = grind (arith, nat_tests)
 
 -- a test that passes at every number below n
 abbrev pub all : (ℕ → Bool) → ℕ → Bool

@@ -28,6 +28,10 @@ number_of FileMark = 19
 number_of FileField = 20
 number_of (Own n) = n
 
+-- the refusal of a cause that names no side and no place
+abbrev pub plain : Cause → Refusal
+plain cause = record { cause = cause; side = 0; place = 0 }
+
 -- the refusal has this number, side and place
 pub record Refused (e : Refusal) (number side place : ℕ) : Type 0 where
   pub numbered : number_of e.cause ≡ number

@@ -1,11 +1,7 @@
 -- Legal time: stamps, summer time and the local label of a stamp.
 -- A stamp counts the minutes from 2000-01-01 00:00 UTC.
-use Rattle.std.specs.Prelude.{◌≡◌, ℕ, ◌+◌, ◌*◌, ◌/◌, ◌%◌, ◌≤◌, Bool, cond, ◌&&◌, ◌==◌, ◌≢◌, nat_le, nat_lt}
+use Rattle.std.specs.Prelude.{◌≡◌, ℕ, ◌+◌, ◌*◌, ◌/◌, ◌%◌, ◌≤◌, Bool, cond, ◌&&◌, ◌≢◌, nat_le, nat_lt}
 use Rattle.legal_time.specs.Days.{year_of, month_of, day_of_month, weekday_of, last_sunday}
-
--- the day of the change at a place of the table: the last Sundays of March and October, year after year from 2000
-unfoldable pub change_day : ℕ → ℕ
-change_day place = last_sunday (2000 + place / 2) (cond (place % 2 == 0) 3 10)
 
 -- summer time of the year y: from 01:00 UTC on the last Sunday of March until 01:00 UTC on the last Sunday of October
 unfoldable pub summer_from : ℕ → ℕ

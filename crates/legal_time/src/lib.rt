@@ -11,7 +11,7 @@ mod moments;
 mod refusals;
 mod stamps;
 
-pub use dates::Date;
-pub use moments::Moment;
+pub use dates::{DAY_MINUTES, Date, month_length};
+pub use moments::{Label, Moment};
 pub use refusals::{Cause, Refusal};
-pub use stamps::{moment, stamp};
+pub use stamps::{LAST_STAMP, moment, stamp};

@@ -3,11 +3,11 @@ ghost use Rattle.std.specs.Prelude.{◌≡◌, ◌<◌, ◌≤◌};
 ghost use Rattle.legal_time.specs.Days.{Valid, day_number};
 ghost use Rattle.legal_time.specs.Summer.{Timed, Dated, mark_of};
 
-use crate::dates::{Date, date_of};
+use crate::dates::{Date, Day};
 
 // A stamp with its local day number (2000-01-01 is 0), month, day of the month, weekday (1 Monday to 7 Sunday), minute of
-// day and whether summer time holds. The ghost fields leave only the moments of stamps, and those with their weekday
-// replaced by 7.
+// day and whether summer time holds. The weekday is a number, since week profiles are indexed by it. The ghost fields leave
+// only the moments of stamps, and those with their weekday replaced by 7.
 #[derive(Clone, Copy, PartialEq, Eq, Debug)]
 pub struct Moment {
     pub(crate) stamp: u32,
@@ -19,6 +19,15 @@ pub struct Moment {
     pub(crate) summer: bool,
     ghost timed: { Timed stamp day minute summer },
     ghost dated: { Dated day month day_of_month weekday },
+}
+
+// What a local clock shows: a local day number, a minute of day and a summer mark, 1 in summer time and else 0. It may
+// hold any numbers, also such as no stamp has, so the mark is none of two.
+#[derive(Clone, Copy, PartialEq, Eq, Debug)]
+pub struct Label {
+    pub day: u32,
+    pub minute: u32,
+    pub mark: u32,
 }
 
 impl Moment {
@@ -72,11 +81,24 @@ impl Moment {
         u32::from(self.summer)
     }
 
+    pub fn label(&self) -> Label
+        ensures day { result.day ≡ self.now.day }
+        ensures minute { result.minute ≡ self.now.minute }
+        ensures mark { result.mark ≡ mark_of self.now.summer }
+    {
+        Label {
+            day: self.day,
+            minute: u32::from(self.minute),
+            mark: self.mark(),
+        }
+    }
+
     // The date with its year, which the moment itself does not hold.
+    #[tactic(auto, using(crate::proofs::Years::date_valid, crate::proofs::Years::date_number_lem))]
     pub fn date(&self) -> Date
         ensures valid { Valid result.year result.month result.day }
         ensures number { day_number result.year result.month result.day ≡ self.now.day }
     {
-        date_of(self.day)
+        Day { number: self.day }.date()
     }
 }

@@ -1,6 +1,6 @@
 // Refusals: what a call answers when it says no. One type serves every library above.
 ghost use Rattle.std.specs.Prelude.{◌≡◌};
-ghost use Rattle.legal_time.specs.Refusals.{number_of};
+ghost use Rattle.legal_time.specs.Refusals.{number_of, plain};
 
 // Why a call was refused. `number` gives the number by which each cause is known.
 #[derive(Clone, Copy, PartialEq, Eq, Debug)]
@@ -59,7 +59,8 @@ impl Cause {
     }
 }
 
-// A refusal: its cause, the grid that it concerns (0 for none) and the place of the fault (0 unless one is named).
+// A refusal: its cause, the grid that it concerns (0 for none) and the place of the fault (0 unless one is named). The side
+// is a number, since it is only shown, and what it counts is the call's.
 #[derive(Clone, Copy, PartialEq, Eq, Debug)]
 pub struct Refusal {
     pub cause: Cause,
@@ -67,13 +68,11 @@ pub struct Refusal {
     pub place: u32,
 }
 
-impl Refusal {
-    // A refusal that names no side and no place.
-    pub fn plain(cause: Cause) -> Refusal
-        ensures cause { result.cause ≡ cause }
-        ensures side { result.side ≡ 0 }
-        ensures place { result.place ≡ 0 }
-    {
+// A cause alone names no side and no place.
+impl From<Cause> for Refusal {
+    ghost from_gives = { λ cause refusal. refusal ≡ plain cause };
+
+    fn from(cause: Cause) -> Refusal {
         Refusal {
             cause,
             side: 0,

@@ -3,7 +3,7 @@
 
 #[cfg(test)]
 mod tests {
-    use legal_time::{Cause, Date, Moment, Refusal, moment, stamp};
+    use legal_time::{Cause, Date, Label, Moment, Refusal, moment, month_length, stamp};
     use std::test::Fail;
 
     // What a moment shows: date, weekday, minute of day and mark.
@@ -14,6 +14,10 @@ mod tests {
 
     fn date(year: u16, month: u8, day: u8) -> Date {
         Date { year, month, day }
+    }
+
+    fn label(day: u32, minute: u32, mark: u32) -> Label {
+        Label { day, minute, mark }
     }
 
     #[test]
@@ -28,7 +32,7 @@ mod tests {
 
     #[test]
     fn first_and_last(rt: HostRuntime) {
-        let refused = Refusal::plain(Cause::StampOutOfRange);
+        let refused = Refusal::from(Cause::StampOutOfRange);
         assert_eq!(rt; shown(0), Ok((date(2000, 1, 1), 6, 60, 0)));
         assert_eq!(rt; shown(52_595_939), Ok((date(2099, 12, 31), 4, 1439, 0)));
         assert_eq!(rt; shown(52_595_940), Err(refused));
@@ -38,15 +42,22 @@ mod tests {
 
     #[test]
     fn labels(rt: HostRuntime) {
-        let refused = Refusal::plain(Cause::NoSuchLabel);
-        assert_eq!(rt; stamp(8856, 119, 0), Ok(12_752_699));
-        assert_eq!(rt; stamp(8856, 150, 0), Err(refused));
-        assert_eq!(rt; stamp(8856, 150, 1), Err(refused));
-        assert_eq!(rt; stamp(9066, 150, 1), Ok(13_055_070));
-        assert_eq!(rt; stamp(9066, 150, 0), Ok(13_055_130));
-        assert_eq!(rt; stamp(0, 59, 0), Err(refused));
-        assert_eq!(rt; stamp(u32::MAX, u32::MAX, u32::MAX), Err(refused));
+        let refused = Refusal::from(Cause::NoSuchLabel);
+        assert_eq!(rt; stamp(label(8856, 119, 0)), Ok(12_752_699));
+        assert_eq!(rt; stamp(label(8856, 150, 0)), Err(refused));
+        assert_eq!(rt; stamp(label(8856, 150, 1)), Err(refused));
+        assert_eq!(rt; stamp(label(9066, 150, 1)), Ok(13_055_070));
+        assert_eq!(rt; stamp(label(9066, 150, 0)), Ok(13_055_130));
+        assert_eq!(rt; stamp(label(0, 59, 0)), Err(refused));
+        assert_eq!(rt; stamp(label(u32::MAX, u32::MAX, u32::MAX)), Err(refused));
         assert_eq!(rt; refused.cause.number(), 16);
+    }
+
+    #[test]
+    fn labels_of_moments(rt: HostRuntime) -> Result<(), Fail> {
+        assert_eq!(rt; moment(12_752_699)?.label(), label(8856, 119, 0));
+        assert_eq!(rt; moment(12_752_700)?.label(), label(8856, 180, 1));
+        Ok(())
     }
 
     // Stepping and asking anew agree, over both changes of a year and its end.
@@ -60,7 +71,7 @@ mod tests {
             }
         }
         let last = moment(52_595_939)?;
-        assert_eq!(rt; last.next(), Err(Refusal::plain(Cause::StampOutOfRange)));
+        assert_eq!(rt; last.next(), Err(Refusal::from(Cause::StampOutOfRange)));
         Ok(())
     }
 
@@ -73,6 +84,16 @@ mod tests {
         assert_eq!(rt; holiday.date(), monday.date());
         assert_eq!(rt; holiday.stamp(), monday.stamp());
         Ok(())
+    }
+
+    #[test]
+    fn months(rt: HostRuntime) {
+        assert_eq!(rt; month_length(2024, 2), 29);
+        assert_eq!(rt; month_length(2001, 2), 28);
+        assert_eq!(rt; month_length(1900, 2), 28);
+        assert_eq!(rt; month_length(2000, 2), 29);
+        assert_eq!(rt; month_length(2001, 4), 30);
+        assert_eq!(rt; month_length(2001, 12), 31);
     }
 
     #[test]

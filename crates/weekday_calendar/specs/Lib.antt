@@ -1,2 +1,2 @@
 pub mod Weekdays
-pub mod WeekdayCalendarCalendarLemmas
+pub mod Lawful

@@ -1,11 +1,13 @@
 -- What a weekday programme means: a peak rate in certain hours of Monday to Friday, another rate elsewhere.
-use Rattle.std.specs.Prelude.{ℕ, ◌*◌, Bool, cond, ◌&&◌, List, [], ◌∷◌, length, Some, None, Option, ◌==◌, nat_le, nat_lt}
+use Rattle.std.specs.Prelude.{ℕ, ◌*◌, Bool, cond, ◌&&◌, List, [], ◌∷◌, length, Some, None, Option, Ok, Err, Result, ◌==◌, nat_le, nat_lt}
 use Rattle.legal_time.specs.Refusals.{Reply, gives, refuses}
 use Rattle.legal_time.specs.declared.Moment.{Moment}
 use Rattle.calendars.specs.Fields.{Field, field, first_wrong, byte_at, up_to}
 use Rattle.calendars.specs.Meanings.{Plan, Verdict, reads, faults}
 use Rattle.calendars.specs.Orders.{laid, order_no}
 use Rattle.calendars.specs.declared.Order.{Order}
+use Rattle.weekday_calendar.specs.declared.Fault.{Fault}
+use Rattle.weekday_calendar.specs.declared.Fault.TheVariants.{Length, Letters, Field as TheField}
 use Rattle.weekday_calendar.specs.declared.rates.Rates.{Rates}
 
 -- Monday to Friday, from the begin hour on until the end hour
@@ -45,6 +47,17 @@ weekday_reading bytes =
     (cond (lettered bytes)
     (passed (weekday_plan (byte_at bytes 2) (byte_at bytes 3) (byte_at bytes 4) (byte_at bytes 5)) (first_wrong (weekday_fields bytes)))
     (faults 1001 0)) (faults 1000 0)
+
+-- the number and the place of each fault
+abbrev pub number_and_place : Fault → ℕ × ℕ
+number_and_place Length = (1000, 0)
+number_and_place Letters = (1001, 0)
+number_and_place (TheField offset) = (1002, offset)
+
+-- what bytes were read as
+abbrev pub verdict_of : Result Rates Fault → Verdict Plan
+verdict_of (Ok rates) = reads (plan_of rates)
+verdict_of (Err fault) = faults (number_and_place fault).0 (number_and_place fault).1
 
 -- what is told of a moment under a map and an order that was asked for, unless question 10, 11, 12 or 13 refuses it
 abbrev pub under_order : Option ℕ → Order → Plan → Moment → Reply ℕ

@@ -1,5 +1,6 @@
 // A calendar of a licensee's own, as a model to copy: two rates, one in the peak hours of Monday to Friday and one
-// elsewhere. It implements `calendars::Calendar` itself. docs/OWN_CALENDAR.md walks through it.
+// elsewhere. It implements `calendars::Calendar` itself, where `ProgrammeCalendar` over its rates would be shorter, to show
+// how. docs/OWN_CALENDAR.md walks through it.
 //
 // Its programme has 8 bytes: the letters WD, the hour at which the peak begins (0 to 23), the hour at which it ends
 // (later, at most 24), the peak period and the off-peak period (1 to 8), and two bytes that are zero.
@@ -7,27 +8,18 @@
 
 mod rates;
 
-ghost use Rattle.std.specs.Prelude.{◌≡◌, [], length, take};
-ghost use Rattle.legal_time.specs.Refusals.{number_of, reply_of, given};
-ghost use Rattle.calendars.specs.Fields.{first_wrong, up_to};
-ghost use Rattle.calendars.specs.Meanings.{alone, planned, unprogrammed};
+ghost use Rattle.std.specs.Prelude.{◌≡◌, []};
+ghost use Rattle.legal_time.specs.Refusals.{Refused, reply_of};
+ghost use Rattle.calendars.specs.Meanings.{planned, unprogrammed};
 ghost use Rattle.calendars.specs.Orders.{laid};
-ghost use Rattle.weekday_calendar.specs.Weekdays.{plan_of, weekday_fields, weekday_reading, ordered_over};
-ghost use Rattle.weekday_calendar.specs.WeekdayCalendarCalendarLemmas.{planned_lawful};
+ghost use Rattle.weekday_calendar.specs.Weekdays.{plan_of, weekday_reading, number_and_place, verdict_of, ordered_over};
+ghost use Rattle.calendars.specs.Planned.{planned_lawful};
+ghost use Rattle.weekday_calendar.specs.Lawful.{rates_lawful};
 ghost use Rattle.std.proofs.Common.{rules};
 
 use calendars::{Calendar, DateCalendar, Order, OrderLayer, refuse_order};
 use legal_time::{Cause, Moment, Refusal};
 use rates::Rates;
-
-const LENGTH: usize = 8;
-
-// The faults that only this calendar states.
-const WRONG_LENGTH: u32 = 1000;
-
-const WRONG_LETTERS: u32 = 1001;
-
-const WRONG_FIELD: u32 = 1002;
 
 const FRIDAY: u8 = 5;
 
@@ -41,7 +33,7 @@ impl Rates {
         let minute = moment.minute();
         let from = HOUR * u16::from(self.begin);
         let until = HOUR * u16::from(self.end);
-        if moment.weekday() <= FRIDAY && from <= minute && minute < until {
+        if moment.weekday() <= FRIDAY && (from..until).contains(&minute) {
             self.peak
         } else {
             self.off_peak
@@ -49,70 +41,68 @@ impl Rates {
     }
 }
 
-// A fault by its number and place. Only the meter names a side.
-fn fault(number: u32, place: u32) -> Refusal
-    ensures number { number_of result.cause ≡ number }
-    ensures side { result.side ≡ 0 }
-    ensures place { result.place ≡ place }
-{
-    Refusal {
-        cause: Cause::Own(number),
-        side: 0,
-        place,
+// Why bytes are no programme. Only this calendar states these faults.
+#[derive(Clone, Copy, PartialEq, Eq, Debug)]
+enum Fault {
+    Length,
+    Letters,
+    // the first wrong field
+    Field { offset: u32 },
+}
+
+// Only the meter names a side.
+impl From<Fault> for Refusal {
+    ghost from_gives = { λ fault refusal. Refused refusal (number_and_place fault).0 0 (number_and_place fault).1 };
+
+    fn from(fault: Fault) -> Refusal {
+        let (number, place) = match fault {
+            Fault::Length => (1000, 0),
+            Fault::Letters => (1001, 0),
+            Fault::Field { offset } => (1002, offset),
+        };
+        Refusal {
+            cause: Cause::Own(number),
+            side: 0,
+            place,
+        }
     }
 }
 
-fn is_period(byte: u8) -> bool
-    ensures { result ≡ up_to 8 byte }
+// Reads a programme, or answers its first fault.
+#[tactic(auto, unfolding(crate::specs::Weekdays::weekday_reading))]
+fn read(bytes: &[u8]) -> Result<Rates, Fault>
+    ensures { verdict_of result ≡ weekday_reading bytes.now }
 {
-    1 <= byte && byte <= 8
-}
-
-// The offset of the first wrong field.
-fn first_wrong(bytes: &[u8]) -> Option<u32>
-    requires { length bytes.now ≡ 8 }
-    ensures { result ≡ first_wrong (weekday_fields bytes.now) }
-{
-    if bytes[2] > 23 {
-        return Some(2);
+    let &[first, second, begin, end, peak, off_peak, zero, other_zero] = bytes else {
+        return Err(Fault::Length);
+    };
+    if [first, second] != *b"WD" {
+        return Err(Fault::Letters);
     }
-    if bytes[3] <= bytes[2] || bytes[3] > 24 {
-        return Some(3);
+    if begin > 23 {
+        return Err(Fault::Field { offset: 2 });
     }
-    if !is_period(bytes[4]) {
-        return Some(4);
+    if end <= begin || end > 24 {
+        return Err(Fault::Field { offset: 3 });
     }
-    if !is_period(bytes[5]) {
-        return Some(5);
+    if !(1..=8).contains(&peak) {
+        return Err(Fault::Field { offset: 4 });
     }
-    if bytes[6] != 0 {
-        return Some(6);
+    if !(1..=8).contains(&off_peak) {
+        return Err(Fault::Field { offset: 5 });
     }
-    if bytes[7] != 0 {
-        return Some(7);
+    if zero != 0 {
+        return Err(Fault::Field { offset: 6 });
     }
-    None
-}
-
-// Reads a programme, or answers its fault.
-fn read(bytes: &[u8]) -> Result<Rates, Refusal>
-    ensures { given plan_of (reply_of result) ≡ alone (weekday_reading bytes.now) }
-{
-    if bytes.len() != LENGTH {
-        return Err(fault(WRONG_LENGTH, 0));
+    if other_zero != 0 {
+        return Err(Fault::Field { offset: 7 });
     }
-    if bytes[0] != b'W' || bytes[1] != b'D' {
-        return Err(fault(WRONG_LETTERS, 0));
-    }
-    match first_wrong(bytes) {
-        Some(offset) => Err(fault(WRONG_FIELD, offset)),
-        None => Ok(Rates {
-            begin: bytes[2],
-            end: bytes[3],
-            peak: bytes[4],
-            off_peak: bytes[5],
-        }),
-    }
+    Ok(Rates {
+        begin,
+        end,
+        peak,
+        off_peak,
+    })
 }
 
 // The calendar: its programme now and its programme next. Before the first programme every moment has period 1.
@@ -145,9 +135,9 @@ impl Calendar for WeekdayCalendar {
 
     ghost limit = { λ _. 0 };
 
-    ghost lawful = { λ c. planned_lawful c.current };
+    ghost lawful = { λ c. planned_lawful plan_of rates_lawful c.current };
 
-    ghost ahead = { λ c. planned_lawful c.upcoming };
+    ghost ahead = { λ c. planned_lawful plan_of rates_lawful c.upcoming };
 
     // bytes are read as a plan only if their periods are lawful
     ghost legible = { unfold weekday_reading in λ c bytes. Prim.search rules };
@@ -156,6 +146,7 @@ impl Calendar for WeekdayCalendar {
 
     ghost apart = { Prim.search rules };
 
+    #[tactic(auto, unfolding(calendars::specs::Meanings::unprogrammed, calendars::specs::Orders::laid))]
     fn period_at(&self, moment: Moment) -> u8 {
         match &self.current {
             Some(rates) => rates.period_at(moment),
@@ -181,7 +172,7 @@ impl Calendar for WeekdayCalendar {
 pub fn with_orders() -> OrderLayer<WeekdayCalendar>
     ensures current { planned plan_of result.below.current ≡ unprogrammed }
     ensures upcoming { planned plan_of result.below.upcoming ≡ unprogrammed }
-    ensures orders { take result.held.count result.held.orders ≡ [] }
+    ensures orders { result.held.orders.items ≡ [] }
 {
     OrderLayer::new(WeekdayCalendar::new())
 }
@@ -221,7 +212,7 @@ pub fn told_at_first(moment: Moment) -> (u8, u8)
 #[cfg(test)]
 mod tests {
     use super::*;
-    use legal_time::{moment, stamp};
+    use legal_time::{Label, moment, stamp};
     use std::test::Fail;
 
     // Peak from 6 to 22 o'clock in period 2, else period 5.
@@ -229,9 +220,21 @@ mod tests {
 
     const MONDAY: u32 = 8857;
 
+    fn fault(number: u32, place: u32) -> Refusal {
+        Refusal {
+            cause: Cause::Own(number),
+            side: 0,
+            place,
+        }
+    }
+
     // A minute in the summer of 2024.
     fn at(day: u32, minute: u32) -> Result<Moment, Refusal> {
-        moment(stamp(day, minute, 1)?)
+        moment(stamp(Label {
+            day,
+            minute,
+            mark: 1,
+        })?)
     }
 
     #[test]
@@ -299,7 +302,7 @@ mod tests {
             told_under_order(&PROGRAMME, clock, order, at(MONDAY, 780)?),
             Ok(2)
         );
-        let late = Err(Refusal::plain(Cause::OrderTime));
+        let late = Err(Refusal::from(Cause::OrderTime));
         assert_eq!(rt;
             told_under_order(&PROGRAMME, noon.stamp(), order, noon),
             late

@@ -1,15 +1,8 @@
-use Rattle.std.proofs.Common.{refl, arith}
-use Rattle.std.proofs.lemmas.List.{length-replicate}
+use Rattle.std.proofs.Common.{rules}
 use Rattle.calendars.specs.Layouts.{bytes_in}
-use Rattle.calendars.proofs.Rows.{filled_more, filled_all}
+use Rattle.calendars.proofs.Rows.{row_from_fn}
 use Rattle.calendars.proofs.decoding.bytes_at.Goals as goal
-
-pub loop-k-init : goal.loop-k-init
-loop-k-init g c = (length-replicate _ _, refl)
-
-pub loop-k-preserved : goal.loop-k-preserved
-loop-k-preserved g c = filled_more _ _ _ _ _ c.loop-k.invariant (omega arith) (refl)
 
 pub returns : goal.returns
 unfolding bytes_in
-returns g c = filled_all _ _ _ _ c.loop-k.invariant (omega arith)
+returns g c = row_from_fn _ _ _ (λ k x f' call. search rules) _ _ c.from_fn.ensures.items

@@ -1,8 +1,0 @@
-use Rattle.std.proofs.Common.{◌≡◌, ◌-◌}
-use Rattle.calendars.specs.Fields.{first_wrong, parts, choice}
-use Rattle.calendars.proofs.fields.check_choices.Given as goal
-
-abbrev pub invariant-loop-k : goal.invariant-loop-k
-invariant-loop-k l =
-    first_wrong (parts (choice l.bytes l.most l.first) 0 l.count)
-    ≡ first_wrong (parts (choice l.bytes l.most l.first) l.k (l.count - l.k))
