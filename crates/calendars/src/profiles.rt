@@ -26,21 +26,17 @@ pub struct DayProfile<const ROOM: usize> {
 }
 
 impl<const ROOM: usize> DayProfile<ROOM> {
-    // The period of the last slot that has started.
-    #[tactic(auto, unfolding(crate::specs::Programmes::period_of, crate::specs::Programmes::last_begun))]
+    // The period of the last slot that has started. Starts rise, so the first that starts too late ends the look-up.
+    #[tactic(auto, unfolding(crate::specs::Sound::profile_sound))]
     fn period_at(&self, minute: u16) -> u8
-        requires { self.now.count ≤ ROOM }
+        requires { profile_sound self.now ≡ true }
         ensures { result ≡ period_of (used self.now) minute }
     {
         let slots = &self.slots[..usize::from(self.count)];
-        slots.iter().fold(
-            1,
-            |period, slot| if slot.start <= minute {
-                slot.period
-            } else {
-                period
-            },
-        )
+        slots
+            .iter()
+            .take_while(|slot| slot.start <= minute)
+            .fold(1, |_, slot| slot.period)
     }
 }
 
@@ -52,6 +48,13 @@ pub struct MonthDay {
 }
 
 impl MonthDay {
+    // A number that rises with the date.
+    fn number(self) -> u16
+        ensures { result ≡ date_number self.month self.day }
+    {
+        u16::from_be_bytes([self.month, self.day])
+    }
+
     // A day that every year has.
     #[tactic(auto, unfolding(crate::specs::Programmes::common_date))]
     pub(crate) fn is_common(self) -> bool
@@ -69,10 +72,11 @@ pub struct Season {
 }
 
 impl Season {
+    // By numbers: a look-up asks every season, and one comparison takes half the time of two.
     pub(crate) fn has_begun(self, date: MonthDay) -> bool
         ensures { result ≡ nat_le (date_of self) (date_number date.month date.day) }
     {
-        self.start <= date
+        self.start.number() <= date.number()
     }
 }
 
