@@ -1,7 +1,9 @@
 -- What the decoder of hexadecimal text reads is what a word spells.
 use Rattle.std.proofs.Common.{◌≡◌, ℕ, zero, suc, ◌+◌, ◌*◌, ◌<◌, Bool, true, false, cond, ◌&&◌, List, [], ◌∷◌, length, nat_lt, slice_index, codes, inl, inr, Option, Some, None, Result, Ok, Err, refl, sym, ap, ◌∙◌, arith}
 use Rattle.std.specs.Prelude.{MatchOption}
-use Rattle.std.specs.Char.{digit_value}
+use Rattle.std.specs.Char.{digit_value, is_ascii_hexdigit}
+use Rattle.std.specs.List.{fold, list_all}
+use Rattle.std.proofs.Math.Bool.{and-true, and_assoc}
 use Rattle.std.proofs.lemmas.Bool.Decides.{nat_tests}
 use Rattle.hex.specs.Hex.{decode_of, decode_pairs, digit_or_error, hex_digit_value, pair_value, ◌>>=◌}
 use Rattle.hex.specs.declared.error.FromHexError.{FromHexError}
@@ -101,3 +103,41 @@ spelled_as_read word bytes h =
 pub unread_spells_nothing : (word bytes : List ℕ) (e : FromHexError) → (word ≡ codes "-" → ⊥) → decode_of word ≡ Err e → Spelled word bytes → ⊥
 unread_spells_nothing word bytes e other h (inl dash) = other dash.0
 unread_spells_nothing word bytes e other h (inr pairs) = cc (h, decode_of-even word (omega (arith, pairs.long)), decode_pairs-paired 0 word bytes pairs)
+
+-- a digit has a value below 16, and nothing else has
+below_16 : (c : ℕ) → nat_lt (digit_value c) 16 ≡ is_ascii_hexdigit c
+below_16 c = grind (arith, nat_tests)
+
+-- two digits that spell a byte
+both_digits : (a b v : ℕ) (p q : Bool) (o : ℕ) → cond (p && q) (Some o) None ≡ Some v → (p ≡ true) × (q ≡ true)
+both_digits a b v true true o h = (refl, refl)
+both_digits a b v true false o h = cc h
+both_digits a b v false q o h = cc h
+
+digits_of : (a b v : ℕ) → pair_of a b ≡ Some v → (is_ascii_hexdigit a ≡ true) × (is_ascii_hexdigit b ≡ true)
+digits_of a b v h =
+    let both = both_digits a b v (nat_lt (digit_value a) 16) (nat_lt (digit_value b) 16) _ h in
+    (sym (below_16 a) ∙ both.0, sym (below_16 b) ∙ both.1)
+
+-- a word of pairs is all digits
+all_digits : (word bytes : List ℕ) → Paired word bytes → list_all is_ascii_hexdigit word ≡ true
+all_digits [] [] p = refl
+all_digits (a ∷ b ∷ rest) (v ∷ bytes) p =
+    let both = digits_of a b v (p.each 0 (omega arith)) in
+    rw (both.0, both.1) (all_digits rest bytes (Paired-tail a b v rest bytes p))
+all_digits [] (v ∷ bytes) p = absurd (omega (arith, p.long))
+all_digits (a ∷ []) bytes p = absurd (omega (arith, p.long))
+all_digits (a ∷ b ∷ rest) [] p = absurd (omega (arith, p.long))
+
+-- a word that has something else than digits spells nothing, but for the dash
+pub other_digits_spell_nothing : (word bytes : List ℕ) → (word ≡ codes "-" → ⊥) → list_all is_ascii_hexdigit word ≡ false → Spelled word bytes → ⊥
+other_digits_spell_nothing word bytes other h (inl dash) = other dash.0
+other_digits_spell_nothing word bytes other h (inr pairs) = cc (h, all_digits word bytes pairs)
+
+-- a test of all, asked of one after the other
+all_after : {X : Type 0} (test : X → Bool) (so_far : Bool) (xs : List X) → fold (λ all x. all && test x) so_far xs ≡ so_far && list_all test xs
+all_after test so_far [] = sym (and-true so_far)
+all_after test so_far (x ∷ xs) = all_after test (so_far && test x) xs ∙ and_assoc so_far (test x) (list_all test xs)
+
+pub all_asked : {X : Type 0} (test : X → Bool) (xs : List X) → fold (λ all x. all && test x) true xs ≡ list_all test xs
+all_asked test xs = all_after test true xs

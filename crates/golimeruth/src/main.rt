@@ -50,13 +50,12 @@ fn replay<R: Read + Drop>(
     // an input need not end, so the lines are counted
     for number in 1..u64::MAX {
         line.clear();
-        let length = script
-            .read_until(b'\n', &mut line)
-            .map_err(|error| anyhow!("{name}: {error}"))?;
-        if length == 0 {
-            break;
+        // a `match`, since `map_err` would make room for an error at every line
+        match script.read_until(b'\n', &mut line) {
+            Ok(0) => break,
+            Ok(_) => answer(rt.alloc(), number, line.as_slice(), &mut out)?,
+            Err(error) => return Err(anyhow!("{name}: {error}")),
         }
-        answer(rt.alloc(), number, line.as_slice(), &mut out)?;
     }
     out.flush()?;
     Ok(())

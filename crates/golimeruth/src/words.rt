@@ -1,6 +1,8 @@
 // The words of a line.
-ghost use Rattle.std.specs.Prelude.{length};
+ghost use Rattle.std.specs.Prelude.{◌≡◌, length};
+ghost use Rattle.std.specs.Char.{is_ascii_hexdigit};
 ghost use Rattle.std.specs.Iterator.{at_most};
+ghost use Rattle.std.specs.List.{list_all};
 ghost use Rattle.golimeruth.specs.Decimal.{Spells};
 ghost use Rattle.golimeruth.specs.Hexadecimal.{SpellsBytes};
 
@@ -99,13 +101,25 @@ fn decimal(word: &[u8]) -> Result<u32, Slip>
     u32::try_from(value).map_err(|_| Slip::NumberTooLarge)
 }
 
+// A `fold`, since a test that may stop asks a byte at a time, and this asks many at once.
+fn is_hexadecimal(word: &[u8]) -> bool
+    ensures { result ≡ list_all is_ascii_hexdigit word.now }
+{
+    word.iter()
+        .fold(true, |all, byte| all & byte.is_ascii_hexdigit())
+}
+
 // The bytes that a word spells: a pair of digits for each, or a dash for none at all.
-#[tactic(auto, using(crate::proofs::Hexadecimal::spelled_as_read, crate::proofs::Hexadecimal::unread_spells_nothing))]
+#[tactic(auto, using(crate::proofs::Hexadecimal::spelled_as_read, crate::proofs::Hexadecimal::unread_spells_nothing, crate::proofs::Hexadecimal::other_digits_spell_nothing))]
 fn hexadecimal(heap: Global, word: &[u8]) -> Result<Vec<u8>, Unread>
     ensures { SpellsBytes word.now result }
 {
     if word == b"-".as_slice() {
         return Ok(Vec::new(heap));
+    }
+    // the decoder asks for memory before it reads a digit, and a bad line should not need any
+    if !is_hexadecimal(word) {
+        return Err(Unread::Slip(Slip::NotBytes));
     }
     hex::decode(heap, word).map_err(|error| match error {
         FromHexError::OutOfMemory => Unread::Memory(AllocError),
