@@ -1,14 +1,13 @@
 -- Things that start one after the other: the slots of a day and the seasons of a year.
-use Rattle.std.proofs.Common.{◌≡◌, ℕ, zero, suc, ◌+◌, ◌-◌, ◌*◌, ◌<◌, ◌≤◌, true, nat_lt, nat_le, List, [], ◌∷◌, length, slice_index_or, take, Some, None, Option, refl, sym, ◌∙◌, inl, inr, arith}
-use Rattle.std.proofs.lemmas.List.{get_or-take, length-take-le}
+use Rattle.std.proofs.Common.{◌≡◌, ℕ, zero, suc, ◌+◌, ◌-◌, ◌*◌, ◌<◌, ◌≤◌, Bool, true, false, cond, nat_lt, nat_le, List, [], ◌∷◌, length, slice_index_or, take, drop, Some, None, Option, refl, sym, ◌∙◌, inl, inr, arith}
+use Rattle.std.proofs.lemmas.List.{at_drop_more, at_drop_all, get_or-take, length-take-le}
 use Rattle.std.proofs.lemmas.Bool.{and_parts, eqb-true, ltb-true, le-leb, lt-leb, cases_lt, cases_order}
 use Rattle.calendars.specs.Fields.{Field, first_wrong, parts, passed, byte_at, day_at}
 use Rattle.calendars.specs.Laws.{HoldsAt, InTurn, SlotsFill, SlotsFillTheDay, SeasonsFill, SeasonsFillTheYear}
 use Rattle.calendars.specs.Layouts.{profile_in, season_in, row, month_tables, date_tables}
 use Rattle.calendars.specs.Meanings.{reads, Plan}
 use Rattle.calendars.specs.Programmes.{blank_slot, blank_season, last_begun, used, period_of, date_of, week_among, week_of, judged, month_fields, date_fields, month_reading, date_reading, month_plan, date_plan}
-use Rattle.std.proofs.lemmas.List.Sums.{take_while-cons}
-use Rattle.std.specs.List.{fold, list_all, take_while}
+use Rattle.std.specs.List.{list_all}
 use Rattle.calendars.specs.Sound.{rising, from_midnight}
 use Rattle.calendars.specs.declared.profiles.Season.{Season}
 use Rattle.calendars.specs.declared.profiles.Slot.{Slot}
@@ -88,18 +87,38 @@ module _ {X : Type 0} (start value : X → ℕ) (blank : X) where
       told xs time i _ (rising_parts x xs rises).1
       (record { within = omega (arith, h.within); started = h.started; next_not = λ more. h.next_not (omega arith) })
 
-  -- those that have begun stand before those that have not, so the last of them is told
-  begun_first : (xs : List X) (time other : ℕ) → rising start xs ≡ true → fold (λ _ x. value x) other (take_while (λ x. nat_le (start x) time) xs) ≡ last_begun (λ x. nat_le (start x) time) value other xs
-  unfolding last_begun
-  begun_first [] time other rises = refl
-  begun_first (x ∷ xs) time other rises =
-      elim (cases_lt time (start x)) [
-        | inl late ↦ rw (take_while-cons (λ y. nat_le (start y) time) x xs, lt-leb (start x) time late) (sym (too_late time other (start x) xs late (rising_parts x xs rises).0))
-        | inr begun ↦ rw (take_while-cons (λ y. nat_le (start y) time) x xs, le-leb (start x) time begun) (begun_first xs time (value x) (rising_parts x xs rises).1)
-      ]
-
   in_turn : (xs : List X) (other : ℕ) → 0 < length xs → rising start xs ≡ true → InTurn start value blank xs (λ time. last_begun (λ x. nat_le (start x) time) value other xs)
   in_turn xs other h rises = record { some = some xs h; one = one xs rises; told = λ time i at. told xs time i other rises at }
+
+-- one more is looked at, which has begun or has not
+module _ {X : Type 0} (begun : X → Bool) (value : X → ℕ) (other : ℕ) (xs : List X) (i : ℕ) (d : X) (h : i < length xs) where
+  last_more : last_begun begun value other (drop i xs) ≡ last_begun begun value (cond (begun (slice_index_or xs i d)) (value (slice_index_or xs i d)) other) (drop (i + 1) xs)
+  unfolding last_begun
+  last_more = at_drop_more (last_begun begun value other) xs i d h
+
+  pub last_yes : begun (slice_index_or xs i d) ≡ true → last_begun begun value other (drop i xs) ≡ last_begun begun value (value (slice_index_or xs i d)) (drop (i + 1) xs)
+  last_yes e = last_more ∙ rw e
+
+  last_no : begun (slice_index_or xs i d) ≡ false → last_begun begun value other (drop i xs) ≡ last_begun begun value other (drop (i + 1) xs)
+  last_no e = last_more ∙ rw e
+
+-- all are looked at
+pub last_all : {X : Type 0} (begun : X → Bool) (value : X → ℕ) (other : ℕ) (xs : List X) (i : ℕ) → length xs ≤ i → last_begun begun value other (drop i xs) ≡ other
+unfolding last_begun
+last_all begun value other xs i h = at_drop_all (last_begun begun value other) xs i h
+
+module _ {X : Type 0} (start value : X → ℕ) (xs : List X) (i : ℕ) (d : X) (h : i < length xs) (rises : rising start (drop i xs) ≡ true) where
+  -- what those that rise keep from one to the next
+  pub rising_more : (list_all (λ x. nat_lt (start (slice_index_or xs i d)) (start x)) (drop (i + 1) xs) ≡ true) × (rising start (drop (i + 1) xs) ≡ true)
+  unfolding rising
+  rising_more =
+      and_parts (list_all (λ x. nat_lt (start (slice_index_or xs i d)) (start x)) (drop (i + 1) xs)) _ (sym (at_drop_more (rising start) xs i d h) ∙ rises)
+
+  -- the first that starts too late decides
+  pub late_stop : (time other : ℕ) → time < start (slice_index_or xs i d) → last_begun (λ x. nat_le (start x) time) value other (drop i xs) ≡ other
+  late_stop time other late =
+      last_no (λ x. nat_le (start x) time) value other xs i d h (lt-leb (start (slice_index_or xs i d)) time late)
+      ∙ too_late start value d time other (start (slice_index_or xs i d)) (drop (i + 1) xs) late rising_more.0
 
 -- what begins with the day is not empty, and begins at 0
 midnight : (slots : List Slot) → from_midnight slots ≡ true → (0 < length slots) × ((slice_index_or slots 0 blank_slot).start ≡ 0)
@@ -112,11 +131,6 @@ unfolding period_of
 slots_fill slots begins rises =
     let first = midnight slots begins in
     record { from_midnight = first.1; in_turn = in_turn (λ slot. slot.start) (λ slot. slot.period) blank_slot slots 1 first.0 rises }
-
--- the slots that have started tell the period
-pub started_first : (slots : List Slot) (minute : ℕ) → rising (λ slot. slot.start) slots ≡ true → fold (λ _ slot. slot.period) 1 (take_while (λ slot. nat_le slot.start minute) slots) ≡ period_of slots minute
-unfolding period_of
-started_first slots minute rises = begun_first (λ slot. slot.start) (λ slot. slot.period) blank_slot slots minute 1 rises
 
 -- what is read has no wrong field
 read_none : (form : Option ℕ) (fields : List Field) (x plan : Plan) → judged form fields x ≡ reads plan → first_wrong fields ≡ None
